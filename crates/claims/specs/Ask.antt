@@ -1,0 +1,39 @@
+-- What is claimed of the ask, over any answer r that meets its promise. Assumes nothing.
+use mathlib.Core.Path.{_≡_}
+use mathlib.Core.Logic.{_↔_}
+use Prim.Native.Nat.{ℕ, _≤_, _<_}
+use lib.ListN.{length}
+use Rattle.model.specs.declared.Checked.the-variants.{Fine}
+use Rattle.model.specs.Policy.{Policy, domainOf, Valid, answer, Grants}
+use Rattle.model.specs.Refusal.{checked}
+use Rattle.ask.specs.declared.Asked.{Asked}
+use Rattle.ask.specs.declared.Asked.the-variants.{Grant, Deny}
+use Rattle.ask.specs.Ask.{askRules, askTold, askedTold}
+
+-- all that the answer to (u, a, v) depends on, beside n, k, u, a and v
+pub record Agree (k u a v : ℕ) (P Q : Policy) : Type 0 where
+  pub domains : P .domains ≡ Q .domains
+  pub entities : length (P .assignment) ≡ length (Q .assignment)
+  pub size : length (P .table) ≡ length (Q .table)
+  pub sender : domainOf P u ≡ domainOf Q u
+  pub receiver : domainOf P v ≡ domainOf Q v
+  pub asked : answer k P u a v ≡ answer k Q u a v
+
+module _ (n k u a v : ℕ) (P : Policy) where
+  -- demand 2: granted exactly if the policy grants, denied exactly if it does not, where no refusal applies
+  abbrev pub AskGrants : Type 0
+  AskGrants = (r : Asked) → askedTold r ≡ askTold n k u a v P
+      → ((r ≡ Grant) ↔ ((checked (askRules n k u a v P) ≡ Fine) × Grants k P u a v))
+      × ((r ≡ Deny) ↔ ((checked (askRules n k u a v P) ≡ Fine) × ¬ Grants k P u a v))
+
+  -- and none does for a request in range of a policy within the limits
+  abbrev pub AskServes : Type 0
+  AskServes = n ≤ 64 → 0 < k → k ≤ 8 → P .domains ≤ 64 → Valid n k P → u < n → a < k → v < n → checked (askRules n k u a v P) ≡ Fine
+
+  -- two calls that agree on these answer alike, whatever stands in the other bytes
+  abbrev pub AskAlone : Type 0
+  AskAlone = (Q : Policy) → Agree k u a v P Q → (r s : Asked) → askedTold r ≡ askTold n k u a v P → askedTold s ≡ askTold n k u a v Q → r ≡ s
+
+  -- two answers that meet the promise are equal
+  abbrev pub AskUnique : Type 0
+  AskUnique = (r s : Asked) → askedTold r ≡ askTold n k u a v P → askedTold s ≡ askTold n k u a v P → r ≡ s

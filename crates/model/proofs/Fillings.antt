@@ -1,0 +1,61 @@
+-- A policy enforces a matrix with gaps exactly if it enforces some filling of it: the one that has what the policy grants.
+-- Assumes nothing.
+use mathlib.Core.Path.{_≡_}
+use mathlib.Core.Logic.{_↔_}
+use mathlib.Core.Bool.{Bool, true, false, cond}
+use Prim.Native.Nat.{ℕ, _<_}
+use native.Mathlib.Omega.{arith}
+use native.Mathlib.Decide.{ℕ-discrete}
+use borrow.Author.Tests.{eq-eqb, ne-eqb}
+use lib.Dec.{eqb}
+use Rattle.model.specs.Matrix.{Cells, Full, Fills}
+use Rattle.model.specs.Policy.{Policy, answer, Agrees, Enforces}
+
+-- 1 where the answer is a grant, and 0 elsewhere
+granted : Cells → Cells
+granted G u a v = cond (eqb (G u a v) 1) 1 0
+
+module _ (G : Cells) (u a v : ℕ) where
+  granted-one : G u a v ≡ 1 → granted G u a v ≡ 1
+  unfolding granted
+  granted-one e = rw (eq-eqb (G u a v) 1 e)
+
+  granted-nought : ¬ (G u a v ≡ 1) → granted G u a v ≡ 0
+  unfolding granted
+  granted-nought f = rw (ne-eqb (G u a v) 1 f)
+
+  granted-low : granted G u a v < 2
+  unfolding granted
+  granted-low = go (eqb (G u a v) 1)
+    where
+      go : (b : Bool) → cond b 1 0 < 2
+      go true = omega arith
+      go false = omega arith
+
+  one-granted : granted G u a v ≡ 1 → G u a v ≡ 1
+  one-granted e = go (ℕ-discrete (G u a v) 1)
+    where
+      go : Dec (G u a v ≡ 1) → G u a v ≡ 1
+      go (yes p) = p
+      go (no f) = absurd (omega (arith, granted-nought f))
+
+pub enforces-filling : (n k : ℕ) (M : Cells) (P : Policy) → Enforces n k M P ↔ ((F : Cells) × Fills n k M F × Enforces n k F P)
+unfolding Full
+enforces-filling n k M P = (
+  λ E. (
+    granted (answer k P),
+    record {
+      full = λ u a v h b l. granted-low (answer k P) u a v;
+      grants = λ u a v h b l e. granted-one (answer k P) u a v (E .grants u a v h b l e);
+      denies = λ u a v h b l e. granted-nought (answer k P) u a v (E .denies u a v h b l e);
+    },
+    record {
+      grants = λ u a v h b l e. one-granted (answer k P) u a v e;
+      denies = λ u a v h b l e g. omega (arith, granted-one (answer k P) u a v g);
+    },
+  ),
+  λ w. record {
+    grants = λ u a v h b l e. w .2 .grants u a v h b l (w .1 .grants u a v h b l e);
+    denies = λ u a v h b l e. w .2 .denies u a v h b l (w .1 .denies u a v h b l e);
+  },
+)

@@ -1,0 +1,11 @@
+pub mod Tests
+pub mod Below
+pub mod Count
+pub mod Places
+pub mod Classes
+pub mod Alike
+pub mod Shared
+pub mod Built
+pub mod Fillings
+pub mod Answers
+pub mod Rules

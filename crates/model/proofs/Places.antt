@@ -1,0 +1,91 @@
+-- Where a cell stands: inside the list, no step of computing its place is large, and every place is one cell's.
+-- Assumes nothing.
+use mathlib.Core.Path.{_≡_, sym, _∙_}
+use mathlib.Core.Logic.{_⊎_, inl, inr}
+use Prim.Native.Nat.{ℕ, zero, _+_, _*_, _/_, _%_, _≤_, _<_}
+use native.Mathlib.Nat.{mul-le-mul, div-add-mod', mod-lt, div-lt-iff-lt-mul, mul-zero, eq-zero-or-pos}
+use native.Mathlib.Omega.{arith}
+use lib.Arith.{digits-lt, digits-div, digits-mod}
+use Rattle.model.specs.Below.{tab}
+use Rattle.model.specs.Matrix.{Cells, cellAt, cell}
+use Rattle.model.specs.Policy.{tableOf}
+use Rattle.model.proofs.Below.{getD-tab}
+
+-- among x senders, k rights and y receivers
+pub cell-inside : {x k y u a v : ℕ} → u < x → a < k → v < y → cellAt k y u a v < x * k * y
+cell-inside h b l = digits-lt (digits-lt h b) l
+
+-- within the limits no product is large
+pub record Room (x k y : ℕ) : Type 0 where
+  pub rows : x * k ≤ 512
+  pub cells : x * k * y ≤ 32768
+
+pub room : {x k y : ℕ} → x ≤ 64 → k ≤ 8 → y ≤ 64 → Room x k y
+room h b l = record { rows = mul-le-mul h b; cells = mul-le-mul (mul-le-mul h b) l }
+
+pub record Steps (x k y u a v : ℕ) : Type 0 where
+  pub sender : u * k ≤ 512
+  pub row : u * k + a < 512
+  pub start : (u * k + a) * y ≤ 32768
+  pub place : cellAt k y u a v < 32768
+  pub inside : cellAt k y u a v < x * k * y
+
+pub steps : {x k y u a v : ℕ} → x ≤ 64 → k ≤ 8 → y ≤ 64 → u < x → a < k → v < y → Steps x k y u a v
+steps {x} {k} {y} {u} {a} {v} hx hk hy h b l =
+    let r = room hx hk hy in
+    let row : u * k + a < x * k = digits-lt h b in
+    let inside : cellAt k y u a v < x * k * y = cell-inside h b l in
+    record { sender = omega (arith, r .rows); row = omega (arith, r .rows); start = omega (arith, r .cells); place = omega (arith, r .cells); inside = inside }
+
+-- the cell that stands at i
+pub record Place (x k y i : ℕ) : Type 0 where
+  pub sender : i / y / k < x
+  pub right : i / y % k < k
+  pub receiver : i % y < y
+  pub is : i ≡ cellAt k y (i / y / k) (i / y % k) (i % y)
+
+pub place : (x k y i : ℕ) → i < x * k * y → Place x k y i
+place x k y i h = record {
+  sender = div-lt-iff-lt-mul k-pos .1 up;
+  right = mod-lt (i / y) k-pos;
+  receiver = mod-lt i y-pos;
+  is = sym (rw (div-add-mod' (i / y) k) (div-add-mod' i y));
+}
+  where
+    y-pos : zero < y
+    y-pos = go (eq-zero-or-pos y)
+      where
+        go : (y ≡ zero) ⊎ (zero < y) → zero < y
+        go (inl e) = absurd (omega (arith, rw (e, mul-zero) at h))
+        go (inr l) = l
+
+    up : i / y < x * k
+    up = div-lt-iff-lt-mul y-pos .1 h
+
+    k-pos : zero < k
+    k-pos = go (eq-zero-or-pos k)
+      where
+        go : (k ≡ zero) ⊎ (zero < k) → zero < k
+        go (inl e) = absurd (omega (arith, rw (e, mul-zero) at up))
+        go (inr l) = l
+
+-- a cell's place gives the cell back
+pub record Parts (k y u a v : ℕ) : Type 0 where
+  pub sender : cellAt k y u a v / y / k ≡ u
+  pub right : cellAt k y u a v / y % k ≡ a
+  pub receiver : cellAt k y u a v % y ≡ v
+
+pub parts : {k y u a v : ℕ} → a < k → v < y → Parts k y u a v
+parts {k} {y} {u} {a} {v} b l = record {
+  sender = rw (digits-div (u * k + a) l, digits-div u b);
+  right = rw (digits-div (u * k + a) l, digits-mod u b);
+  receiver = digits-mod (u * k + a) l;
+}
+
+pub table-at : (s t k : ℕ) (M : Cells) (r c : ℕ → ℕ) (p a q : ℕ) → p < s → a < k → q < t
+    → cell k t (tableOf s t k M r c) p a q ≡ M (r p) a (c q)
+unfolding cell tableOf
+table-at s t k M r c p a q h b l =
+    let w : Parts k t p a q = parts b l in
+    getD-tab (s * k * t) (λ i. M (r (i / t / k)) (i / t % k) (c (i % t))) (cellAt k t p a q) (cell-inside h b l)
+    ∙ rw (w .sender, w .right, w .receiver)

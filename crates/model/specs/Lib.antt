@@ -1,0 +1,7 @@
+pub mod Below
+pub mod Matrix
+pub mod Alike
+pub mod Classes
+pub mod Policy
+pub mod Refusal
+pub mod Rules

@@ -1,0 +1,77 @@
+-- Policies, what they grant and enforce, and the built policy (01, "Matrix and policy" and "Alike"; Definitions 2.2, 2.3, 2.13).
+-- Assumes nothing.
+use mathlib.Core.Path.{_≡_}
+use mathlib.Core.Bool.{Bool}
+use mathlib.Core.List.{List}
+use Prim.Native.Nat.{ℕ, _*_, _/_, _%_, _≤_, _<_}
+use lib.ListN.{length, getD}
+use lib.Dec.{eqb}
+use Rattle.model.specs.Below.{any, count, tab}
+use Rattle.model.specs.Matrix.{Cells, cell}
+use Rattle.model.specs.Alike.{alike?}
+use Rattle.model.specs.Classes.{classes, classOf, memberOf}
+
+pub record Policy : Type 0 where
+  pub domains : ℕ
+  pub assignment : List ℕ
+  pub table : List ℕ
+
+abbrev pub policy : ℕ → List ℕ → List ℕ → Policy
+policy d s t = record { domains = d; assignment = s; table = t }
+
+unfoldable pub domainOf : Policy → ℕ → ℕ
+domainOf P u = getD (P .assignment) u 0
+
+-- a policy for n entities and k rights. Its domains may be any number, and some may have no member
+pub record Valid (n k : ℕ) (P : Policy) : Type 0 where
+  pub entities : length (P .assignment) ≡ n
+  pub below : (u : ℕ) → u < n → domainOf P u < P .domains
+  pub size : length (P .table) ≡ P .domains * k * P .domains
+  pub cells : (i : ℕ) → i < length (P .table) → getD (P .table) i 0 < 2
+
+-- the table's cell for the request (u, a, v)
+unfoldable pub answer : ℕ → Policy → Cells
+answer k P u a v = cell k (P .domains) (P .table) (domainOf P u) a (domainOf P v)
+
+abbrev pub Grants : ℕ → Policy → ℕ → ℕ → ℕ → Type 0
+Grants k P u a v = answer k P u a v ≡ 1
+
+-- answers G, in which 1 is a grant, agree with M's logged cells (Definitions 2.3, 3.1). A cell that is 2 binds nothing
+pub record Agrees (n k : ℕ) (M G : Cells) : Type 0 where
+  pub grants : (u a v : ℕ) → u < n → a < k → v < n → M u a v ≡ 1 → G u a v ≡ 1
+  pub denies : (u a v : ℕ) → u < n → a < k → v < n → M u a v ≡ 0 → ¬ (G u a v ≡ 1)
+
+abbrev pub Enforces : ℕ → ℕ → Cells → Policy → Type 0
+Enforces n k M P = Agrees n k M (answer k P)
+
+-- Definition 2.13's edge: some member of p may use right a towards some member of q
+abbrev pub Edge : ℕ → Cells → Policy → ℕ → ℕ → ℕ → Type 0
+Edge n M P p a q = (u : ℕ) × (v : ℕ) × (u < n) × (v < n) × (domainOf P u ≡ p) × (domainOf P v ≡ q) × (M u a v ≡ 1)
+
+-- how many of d labels have a member, where f gives each entity its label
+unfoldable pub labels : ℕ → ℕ → (ℕ → ℕ) → ℕ
+labels n d f = count d (λ p. any n (λ u. eqb (f u) p))
+
+-- how many domains have a member
+unfoldable pub used : ℕ → Policy → ℕ
+used n P = labels n (P .domains) (domainOf P)
+
+-- the table of s by k by t whose cell (p, a, q) is M (r p) a (c q)
+unfoldable pub tableOf : ℕ → ℕ → ℕ → Cells → (ℕ → ℕ) → (ℕ → ℕ) → List ℕ
+tableOf s t k M r c = tab (s * k * t) (λ i. M (r (i / t / k)) (i / t % k) (c (i % t)))
+
+-- one domain for each class of alike entities, in order of smallest members; the table's cells are theirs
+unfoldable pub built : ℕ → ℕ → Cells → Policy
+built n k M = record {
+  domains = classes n (alike? n k M);
+  assignment = tab n (classOf n (alike? n k M));
+  table = tableOf (classes n (alike? n k M)) (classes n (alike? n k M)) k M (memberOf n (alike? n k M)) (memberOf n (alike? n k M));
+}
+
+-- some policy of at most d domains that enforces M puts u and v together
+pub record Together (d n k : ℕ) (M : Cells) (u v : ℕ) : Type 0 where
+  pub policy : Policy
+  pub few : policy .domains ≤ d
+  pub valid : Valid n k policy
+  pub enforces : Enforces n k M policy
+  pub shared : domainOf policy u ≡ domainOf policy v

@@ -1,0 +1,54 @@
+-- `scan::lowest_in` meets its contract. The invariant: none of the first i bytes is b or more. Assumes nothing.
+use borrow.Author.Needs.{needs}
+use mathlib.Core.Path.{_≡_, sym, _∙_}
+use mathlib.Core.Bool.{false}
+use Prim.Native.Nat.{_-_, _≤_}
+use native.Mathlib.Omega.{arith}
+use borrow.Author.Tests.{le-leb, lt-leb}
+use lib.Dec.{leb}
+use lib.ListN.{length}
+use Rattle.model.specs.Below.{any}
+use Rattle.scan.proofs.Lowest.{at, passed-none, passed-next, lowest-here, lowest-end}
+use Rattle.scan.proofs.lowest_in.Statement.{statement}
+use Rattle.scan.proofs.lowest_in.Tie as tie
+
+abbrev Inv-loop : tie.InvT-loop
+Inv-loop s b i₀ i = (i ≤ length s) × (any i (at (leb b) s) ≡ false)
+
+abbrev μ-loop : tie.MeasureT-loop
+μ-loop s b i₀ i = length s - i
+
+loop-holds : tie.Need-loop-holds Inv-loop μ-loop
+loop-holds c = (omega arith, passed-none (at (leb (c .args .b)) (c .args .s .now)))
+
+shared-slice-read-if1 : tie.Need-shared-slice-read-if1 Inv-loop μ-loop
+shared-slice-read-if1 c = search needs
+
+returns : tie.Need-returns Inv-loop μ-loop
+returns c = lowest-here _ _ _ (omega arith) (c .before .before .before .loop .inv .1) (le-leb _ _ (c .if1 .taken))
+
+add-i : tie.Need-add-i Inv-loop μ-loop
+add-i c = search needs
+
+loop-less : tie.Need-loop-less Inv-loop μ-loop
+loop-less c = search needs
+
+loop-again : tie.Need-loop-again Inv-loop μ-loop
+loop-again c = (omega arith, sym (passed-next _ _ _ (sym (c .before .before .before .loop .inv .1))) ∙ lt-leb _ _ (c .if1 .left))
+
+returns-2 : tie.Need-returns-2 Inv-loop μ-loop
+returns-2 c = lowest-end _ _ _ (omega arith) (c .before .loop .inv .1)
+
+pub lowest-in-spec : {M : Type 1} → statement M
+lowest-in-spec =
+    tie.close
+    (tie.spec
+    Inv-loop
+    μ-loop
+    loop-holds
+    shared-slice-read-if1
+    returns
+    add-i
+    loop-less
+    loop-again
+    returns-2)

@@ -1,0 +1,204 @@
+// Refusals are made here and nowhere else: the tests of arguments, in groups that each call joins in its own order, and the one
+// scan for the lowest place that is at fault.
+use model::Checked;
+use model::Refusal;
+ghost use mathlib.Core.Path.{_≡_};
+ghost use mathlib.Core.List.{[], _∷_};
+ghost use Prim.Native.Nat.{_*_, _≤_, _<_};
+ghost use lib.Dec.{leb};
+ghost use lib.ListN.{length, getD};
+ghost use Rattle.model.specs.declared.Checked.the-variants.{Fine};
+ghost use Rattle.model.specs.Below.{any};
+ghost use Rattle.model.specs.Refusal.{refusal, cellRefusal, checked};
+ghost use Rattle.model.specs.Rules.{lowest, sizeRules, matrixRules, fullRules, assignmentRules, tableRules, requestRules, pairRules, roomRules};
+
+// A refusal that names no cell.
+pub fn refuse(number: usize, place: usize) -> Refusal
+    ensures { λ r. ⌜ r ≡ refusal number place ⌝ }
+{
+    Refusal { number, place }
+}
+
+// A refusal that names a cell, among k rights and y receivers.
+pub fn refuse_cell(number: usize, k: usize, y: usize, cell: usize) -> Refusal
+    ensures { λ r. ⌜ r ≡ cellRefusal number k y cell ⌝ }
+{
+    Refusal {
+        number,
+        place: cell,
+    }
+}
+
+// Whether some byte is b or more. There is no branch inside, so that the compiler takes many bytes at a time.
+fn reaches(s: &[u8], b: u8) -> bool
+    ensures { λ r. ⌜ r ≡ any (length (now (s .entry))) (λ i. leb b (getD (now (s .entry)) i 0)) ⌝ }
+{
+    let mut found = false;
+    let mut i = 0;
+    while i < s.len() {
+        found = found | (b <= s[i]);
+        i += 1;
+    }
+    found
+}
+
+// The lowest place of a byte that is b or more, or the length: byte by byte.
+fn lowest_in(s: &[u8], b: u8) -> usize
+    ensures { λ r. ⌜ r ≡ lowest (leb b) (now (s .entry)) ⌝ }
+{
+    let mut i = 0;
+    while i < s.len() {
+        if b <= s[i] {
+            return i;
+        }
+        i += 1;
+    }
+    i
+}
+
+// The same by blocks: only the block that has such a byte is looked through.
+fn lowest_by_blocks(s: &[u8], b: u8) -> usize
+    ensures { λ r. ⌜ r ≡ lowest (leb b) (now (s .entry)) ⌝ }
+{
+    let mut i = 0;
+    while i < s.len() {
+        let e = block_end(i, s.len());
+        if reaches(&s[i..e], b) {
+            return i + lowest_in(&s[i..e], b);
+        }
+        i = e;
+    }
+    i
+}
+
+// The end of the block that starts at i.
+fn block_end(i: usize, end: usize) -> usize
+    requires { ⌜ i < end ⌝ }
+    ensures { λ r. ⌜ (i < r) × (r ≤ end) ⌝ }
+{
+    if 256 < end - i { i + 256 } else { end }
+}
+
+// The lowest place of a byte that is b or more, or the length.
+pub fn lowest_from(s: &[u8], b: usize) -> usize
+    ensures { λ r. ⌜ r ≡ lowest (leb b) (now (s .entry)) ⌝ }
+{
+    if 255 < b {
+        return s.len();
+    }
+    lowest_by_blocks(s, b as u8)
+}
+
+// 1: n above 64; k 0 or above 8; d above 64. A call that has no d passes 0.
+pub fn sizes(n: usize, k: usize, d: usize) -> Checked
+    ensures { λ r. ⌜ r ≡ checked (sizeRules n k d) ⌝ }
+{
+    if 64 < n {
+        return Checked::Bad(refuse(1, 0));
+    }
+    if k == 0 {
+        return Checked::Bad(refuse(1, 1));
+    }
+    if 8 < k {
+        return Checked::Bad(refuse(1, 1));
+    }
+    if 64 < d {
+        return Checked::Bad(refuse(1, 2));
+    }
+    Checked::Fine
+}
+
+// 2: the matrix's length; 3: a cell above 2.
+pub fn matrix_fits(n: usize, k: usize, m: &[u8]) -> Checked
+    requires { ⌜ (n ≤ 64) × (k ≤ 8) ⌝ }
+    ensures { λ r. ⌜ r ≡ checked (matrixRules n k (now (m .entry))) ⌝ }
+{
+    if m.len() != n * k * n {
+        return Checked::Bad(refuse(2, 0));
+    }
+    let i = lowest_from(m, 3);
+    if i < m.len() {
+        return Checked::Bad(refuse_cell(3, k, n, i));
+    }
+    Checked::Fine
+}
+
+// 4: an unlogged cell, of a matrix that has passed 2 and 3.
+pub fn full_fits(n: usize, k: usize, m: &[u8]) -> Checked
+    requires { ⌜ checked (matrixRules n k (now m)) ≡ Fine ⌝ }
+    ensures { λ r. ⌜ r ≡ checked (fullRules n k (now (m .entry))) ⌝ }
+{
+    let i = lowest_from(m, 2);
+    if i < m.len() {
+        return Checked::Bad(refuse_cell(4, k, n, i));
+    }
+    Checked::Fine
+}
+
+// 5: the assignment's length; 6: a domain number not below d.
+pub fn assignment_fits(n: usize, d: usize, s: &[u8]) -> Checked
+    ensures { λ r. ⌜ r ≡ checked (assignmentRules n d (now (s .entry))) ⌝ }
+{
+    if s.len() != n {
+        return Checked::Bad(refuse(5, 0));
+    }
+    let i = lowest_from(s, d);
+    if i < s.len() {
+        return Checked::Bad(refuse(6, i));
+    }
+    Checked::Fine
+}
+
+// 7: the table's length; 8: a cell above 1.
+pub fn table_fits(k: usize, d: usize, t: &[u8]) -> Checked
+    requires { ⌜ (k ≤ 8) × (d ≤ 64) ⌝ }
+    ensures { λ r. ⌜ r ≡ checked (tableRules k d (now (t .entry))) ⌝ }
+{
+    if t.len() != d * k * d {
+        return Checked::Bad(refuse(7, 0));
+    }
+    let i = lowest_from(t, 2);
+    if i < t.len() {
+        return Checked::Bad(refuse_cell(8, k, d, i));
+    }
+    Checked::Fine
+}
+
+// 9 for a request: sender, right, receiver.
+pub fn request_fits(n: usize, k: usize, u: usize, a: usize, v: usize) -> Checked
+    ensures { λ r. ⌜ r ≡ checked (requestRules n k u a v) ⌝ }
+{
+    if n <= u {
+        return Checked::Bad(refuse(9, 0));
+    }
+    if k <= a {
+        return Checked::Bad(refuse(9, 1));
+    }
+    if n <= v {
+        return Checked::Bad(refuse(9, 2));
+    }
+    Checked::Fine
+}
+
+// 9 for two entities.
+pub fn pair_fits(n: usize, u: usize, v: usize) -> Checked
+    ensures { λ r. ⌜ r ≡ checked (pairRules n u v) ⌝ }
+{
+    if n <= u {
+        return Checked::Bad(refuse(9, 0));
+    }
+    if n <= v {
+        return Checked::Bad(refuse(9, 1));
+    }
+    Checked::Fine
+}
+
+// 10 and 11: a buffer of `have` bytes where `need` are to be written.
+pub fn room_fits(number: usize, have: usize, need: usize) -> Checked
+    ensures { λ r. ⌜ r ≡ checked (roomRules number have need) ⌝ }
+{
+    if have < need {
+        return Checked::Bad(refuse(number, need));
+    }
+    Checked::Fine
+}

@@ -1,0 +1,216 @@
+/*
+ * Calls soroluzko_ask from C: grants, denials, every refusal with its place and its order, the greatest sizes, empty slices; then
+ * random calls beside plain_ask. Buffers are allocated to their exact lengths, so that valgrind sees a byte read past an end.
+ *
+ *     ask [CALLS [SEED]]
+ */
+#include <stdio.h>
+#include <stdlib.h>
+#include <string.h>
+
+#include "plain.h"
+#include "soroluzko.h"
+
+static unsigned long checks, faults;
+
+static void check(bool holds, const char *what) {
+    checks++;
+    if (!holds) {
+        faults++;
+        printf("FAULT %s\n", what);
+    }
+}
+
+/* A policy whose bytes stand in memory of their exact lengths. */
+static struct soroluzko_policy policy(size_t n, size_t k, size_t d, const char *assignment, size_t s, const char *table, size_t t) {
+    struct soroluzko_policy p = {n, k, d, NULL, s, NULL, t};
+    uint8_t *held = s ? malloc(s) : NULL, *cells = t ? malloc(t) : NULL;
+    if (s) memcpy(held, assignment, s);
+    if (t) memcpy(cells, table, t);
+    p.assignment = held;
+    p.table = cells;
+    return p;
+}
+
+static void drop(struct soroluzko_policy p) {
+    free((void *)p.assignment);
+    free((void *)p.table);
+}
+
+static uint64_t ask(const struct soroluzko_policy *p, size_t u, size_t a, size_t v) {
+    return soroluzko_policy_ask(p, (struct soroluzko_request){u, a, v});
+}
+
+static void answers(const char *what, const struct soroluzko_policy *p, size_t u, size_t a, size_t v, bool granted) {
+    uint64_t got = ask(p, u, a, v);
+    check(!soroluzko_refused(got) && soroluzko_number(got) == 0 && soroluzko_granted(got) == granted, what);
+    check(got == (granted ? 256 : 0), what);
+}
+
+static void refuses(const char *what, const struct soroluzko_policy *p, size_t u, size_t a, size_t v, unsigned number, size_t place) {
+    uint64_t got = ask(p, u, a, v);
+    check(soroluzko_refused(got) && soroluzko_number(got) == number && soroluzko_place(got) == place && !soroluzko_granted(got), what);
+    check(got >> 32 == 0, what);
+}
+
+static void grants_and_denials(void) {
+    /* document 01's whole example: 0 and 1 may send to 2, and to nobody else */
+    struct soroluzko_policy p = policy(3, 1, 2, "\0\0\1", 3, "\0\1\0\0", 4);
+    for (size_t u = 0; u < 3; u++)
+        for (size_t v = 0; v < 3; v++) answers("the whole example", &p, u, 0, v, u < 2 && v == 2);
+    drop(p);
+    /* P9: two rights, and a table that is not its own mirror */
+    const char *cells = "\1\1\0\1\1\1\0\0";
+    p = policy(2, 2, 2, "\0\1", 2, cells, 8);
+    for (size_t u = 0; u < 2; u++)
+        for (size_t a = 0; a < 2; a++)
+            for (size_t v = 0; v < 2; v++) answers("P9", &p, u, a, v, cells[(u * 2 + a) * 2 + v] == 1);
+    drop(p);
+}
+
+static void refusals(void) {
+    const size_t most = SIZE_MAX;
+    struct soroluzko_policy good = policy(3, 1, 2, "\0\0\1", 3, "\0\1\0\0", 4), p;
+
+    p = good, p.n = 65, refuses("n 65", &p, 0, 0, 0, 1, 0);
+    p = good, p.n = most, refuses("n greatest", &p, 0, 0, 0, 1, 0);
+    p = good, p.k = 0, refuses("k 0", &p, 0, 0, 0, 1, 1);
+    p = good, p.k = 9, refuses("k 9", &p, 0, 0, 0, 1, 1);
+    p = good, p.k = most, refuses("k greatest", &p, 0, 0, 0, 1, 1);
+    p = good, p.d = 65, refuses("d 65", &p, 0, 0, 0, 1, 2);
+    p = good, p.d = most, refuses("d greatest", &p, 0, 0, 0, 1, 2);
+    p = good, p.assignment_length = 2, refuses("an assignment cut short", &p, 0, 0, 0, 5, 0);
+    p = good, p.n = 2, refuses("an assignment too long", &p, 0, 0, 0, 5, 0);
+    p = good, p.table_length = 3, refuses("a table cut short", &p, 0, 0, 0, 7, 0);
+    p = good, p.d = 1, refuses("a table too long", &p, 0, 0, 0, 7, 0);
+    p = good, p.k = 2, refuses("a table for one right", &p, 0, 0, 0, 7, 0);
+    refuses("u out of range", &good, 3, 0, 0, 9, 0);
+    refuses("u greatest", &good, most, 0, 0, 9, 0);
+    refuses("a out of range", &good, 0, 1, 0, 9, 1);
+    refuses("a greatest", &good, 0, most, 0, 9, 1);
+    refuses("v out of range", &good, 0, 0, 3, 9, 2);
+    refuses("v greatest", &good, 0, 0, most, 9, 2);
+
+    /* the order: all of it is wrong, and then one thing less at a time */
+    p = good, p.n = most, p.k = most, p.d = most, refuses("all wrong", &p, most, most, most, 1, 0);
+    p = good, p.k = most, p.d = most, p.assignment_length = 0, refuses("all but n", &p, most, most, most, 1, 1);
+    p = good, p.d = most, p.assignment_length = 0, refuses("all but n, k", &p, most, most, most, 1, 2);
+    p = good, p.assignment_length = 0, p.table_length = 0, refuses("all but the sizes", &p, most, most, most, 5, 0);
+    p = good, p.table_length = 0, refuses("7 before 9", &p, most, most, most, 7, 0);
+    refuses("9 for u first", &good, most, most, most, 9, 0);
+    refuses("9 for a before v", &good, 0, most, most, 9, 1);
+    drop(good);
+
+    /* domain numbers, with an odd place that must not read as a grant; and the one cell */
+    p = policy(3, 1, 2, "\2\377\1", 3, "\0\1\0\3", 4);
+    refuses("6 for u", &p, 0, 0, 1, 6, 0);
+    refuses("6 for u, at an odd place", &p, 1, 0, 0, 6, 1);
+    refuses("6 for v, and no lower one", &p, 2, 0, 1, 6, 1);
+    refuses("6 for v", &p, 2, 0, 0, 6, 0);
+    refuses("8 for the one cell", &p, 2, 0, 2, 8, 3);
+    drop(p);
+    p = policy(2, 1, 2, "\0\1", 2, "\2\1\0\377", 4);
+    refuses("8 at cell 0", &p, 0, 0, 0, 8, 0);
+    answers("no other cell is searched", &p, 0, 0, 1, true);
+    answers("no other cell is searched", &p, 1, 0, 0, false);
+    refuses("8 at cell 3", &p, 1, 0, 1, 8, 3);
+    drop(p);
+}
+
+static void edges(void) {
+    /* nobody: empty slices, with no memory behind them */
+    struct soroluzko_policy p = {0, 1, 0, NULL, 0, NULL, 0};
+    refuses("n 0, d 0", &p, 0, 0, 0, 9, 0);
+    p.n = 1;
+    refuses("n 1 and an empty assignment", &p, 0, 0, 0, 5, 0);
+    p.n = 0, p.d = 1;
+    refuses("d 1 and an empty table", &p, 0, 0, 0, 7, 0);
+
+    /* one entity and no domain for it */
+    p = policy(1, 1, 0, "\0", 1, "", 0);
+    refuses("no domain is below 0", &p, 0, 0, 0, 6, 0);
+    drop(p);
+
+    /* the largest policy, with a fault in its last cell, and domains without a member */
+    uint8_t *assignment = malloc(64), *table = calloc(32768, 1);
+    for (size_t u = 0; u < 64; u++) assignment[u] = (uint8_t)u;
+    table[32767] = 2;
+    table[32766] = 1;
+    p = (struct soroluzko_policy){64, 8, 64, assignment, 64, table, 32768};
+    refuses("the last cell", &p, 63, 7, 63, 8, 32767);
+    answers("the last but one", &p, 63, 7, 62, true);
+    answers("a denial at full size", &p, 0, 0, 0, false);
+    memset(assignment, 63, 64);
+    refuses("all in the last domain", &p, 0, 7, 0, 8, 32767);
+    p.n = 1, p.assignment_length = 1;
+    answers("d above n", &p, 0, 0, 0, false);
+
+    /* bytes that the answer does not depend on */
+    memset(assignment, 255, 64), memset(table, 255, 32768);
+    p.n = 64, p.assignment_length = 64;
+    assignment[5] = 3, assignment[9] = 4, table[(3 * 8 + 2) * 64 + 4] = 1, table[(4 * 8 + 2) * 64 + 3] = 0;
+    answers("whatever stands elsewhere: a grant", &p, 5, 2, 9, true);
+    answers("whatever stands elsewhere: a denial", &p, 9, 2, 5, false);
+    free(assignment), free(table);
+}
+
+/* ---- random calls */
+
+static uint64_t state;
+
+static uint64_t next(void) {
+    state ^= state << 13, state ^= state >> 7, state ^= state << 17;
+    return state * 0x2545f4914f6cdd1d;
+}
+
+static size_t below(size_t n) { return (size_t)(next() >> 33) % n; }
+
+/* mostly a number up to most, at times one past it, rarely one of the greatest */
+static size_t number(size_t most) {
+    size_t kind = below(64);
+    return kind == 0 ? SIZE_MAX - below(3) : kind == 1 ? most + 1 : below(most + 1);
+}
+
+/* how often each was answered: 0 denied, 1 granted, and 2 + the number of a refusal */
+static unsigned long met[16];
+
+static void random_calls(unsigned long calls) {
+    for (unsigned long i = 0; i < calls; i++) {
+        size_t n = number(64), k = number(8), d = number(below(4) ? 4 : 64);
+        size_t s = below(32) || n > 64 ? (n > 64 ? below(65) : n) : below(66);
+        size_t t = d <= 64 && k <= 8 ? d * k * d : below(40);
+        if (below(32) == 0) t = below(t + 2);
+        uint8_t *assignment = s ? malloc(s) : NULL, *table = t ? malloc(t) : NULL;
+        for (size_t j = 0; j < s; j++) assignment[j] = (uint8_t)(below(24) ? below(d && d <= 64 ? d : 1) : next());
+        for (size_t j = 0; j < t; j++) table[j] = (uint8_t)(below(8) ? below(2) : below(4));
+        for (int j = 0; j < 8; j++) {
+            size_t u = number(n && n <= 64 ? n - 1 : 2), a = number(k && k <= 8 ? k - 1 : 2), v = number(n && n <= 64 ? n - 1 : 2);
+            uint64_t got = soroluzko_ask(n, k, d, u, a, v, assignment, s, table, t);
+            uint64_t want = plain_ask(n, k, d, u, a, v, assignment, s, table, t);
+            checks++;
+            met[want & 0xff ? 2 + (want & 0xff) : want >> 8]++;
+            if (got != want && faults++ < 10)
+                printf("FAULT n %zu k %zu d %zu u %zu a %zu v %zu lengths %zu %zu: %#llx, and plain C says %#llx\n", n, k, d, u, a, v, s, t,
+                       (unsigned long long)got, (unsigned long long)want);
+        }
+        free(assignment), free(table);
+    }
+    printf("random calls: %lu granted, %lu denied; refused", met[1], met[0]);
+    for (unsigned i = 1; i <= 12; i++)
+        if (met[2 + i]) printf(" %u: %lu", i, met[2 + i]);
+    printf("\n");
+    const unsigned each[] = {0, 1, 3, 7, 8, 9, 10, 11};
+    for (unsigned i = 0; i < 8; i++) check(met[each[i]] != 0, "a kind of answer that no random call met");
+}
+
+int main(int count, char **words) {
+    unsigned long calls = count > 1 ? strtoul(words[1], NULL, 10) : 200000;
+    uint64_t seed = count > 2 ? strtoull(words[2], NULL, 10) : 20261115;
+    state = seed * 2 + 1;
+    grants_and_denials();
+    refusals();
+    edges();
+    random_calls(calls);
+    printf("ask from C: %lu checks, %lu faults (seed %llu)\n", checks, faults, (unsigned long long)seed);
+    return faults != 0;
+}
