@@ -1,13 +1,17 @@
 -- Each exit of the ask: the rules before it do not apply, and the one that does decides. Assumes nothing.
 use mathlib.Core.Path.{_≡_, sym, ap, _∙_}
-use mathlib.Core.List.{List, _∷_, _++_}
-use Prim.Native.Nat.{ℕ, _*_}
-use lib.ListN.{length}
+use mathlib.Core.List.{List, [], _∷_, _++_}
+use Prim.Native.Nat.{ℕ, _*_, _≤_, _<_}
+use native.Mathlib.Omega.{arith}
+use borrow.Author.Tests.{lt-ltb, le-ltb, le-leb, lt-leb, eq-eqb, ne-eqb}
+use lib.Dec.{ltb}
+use lib.ListN.{length, getD}
 use Rattle.model.specs.declared.Refusal.{Refusal}
 use Rattle.model.specs.declared.Checked.{Checked}
 use Rattle.model.specs.declared.Checked.the-variants.{Fine, Bad}
-use Rattle.model.specs.Policy.{Policy}
-use Rattle.model.specs.Refusal.{Rule, refusal, checked, refused, tell}
+use Rattle.model.specs.Matrix.{cellAt, cell}
+use Rattle.model.specs.Policy.{Policy, domainOf, answer}
+use Rattle.model.specs.Refusal.{Rule, rule, refusal, cellRefusal, checked, Told, values, refused, tell}
 use Rattle.model.specs.Rules.{lengthRule, sizeRules, requestRules}
 use Rattle.model.proofs.Answers.{group-fine, group-bad}
 use Rattle.model.proofs.Rules.{length-pass, length-bad}
@@ -66,3 +70,35 @@ module _ (n k u a v : ℕ) (P : Policy) where
         pub looks : checked (requestRules n k u a v) ≡ Fine → checked (askRules n k u a v P) ≡ checked (lookRules k u a v P)
         unfolding from9
         looks e = after7 ∙ group-fine (requestRules n k u a v) (lookRules k u a v P) e
+
+-- ---- the exits of the look, where i is the cell's place
+
+module _ (k u a v : ℕ) (P : Policy) where
+  abbrev pub looked : Told
+  looked = tell (checked (lookRules k u a v P)) (granted k P u a v)
+
+  pub sender-bad : P .domains ≤ domainOf P u → refused (refusal 6 u) ≡ looked
+  unfolding lookRules
+  sender-bad h = rw (le-leb (P .domains) (domainOf P u) h)
+
+  pub receiver-bad : domainOf P u < P .domains → P .domains ≤ domainOf P v → refused (refusal 6 v) ≡ looked
+  unfolding lookRules
+  receiver-bad h l = rw (lt-leb (P .domains) (domainOf P u) h, le-leb (P .domains) (domainOf P v) l)
+
+  module _ (i : ℕ) (e : i ≡ cellAt k (P .domains) (domainOf P u) a (domainOf P v)) (h : domainOf P u < P .domains) (l : domainOf P v < P .domains) where
+    at : getD (P .table) i 0 ≡ answer k P u a v
+    unfolding answer cell
+    at = ap (λ (j : ℕ). getD (P .table) j 0) e
+
+    cell-rule : looked ≡ tell (checked (rule (ltb 1 (answer k P u a v)) (cellRefusal 8 k (P .domains) i) ∷ [])) (granted k P u a v)
+    unfolding lookRules
+    cell-rule = rw (lt-leb (P .domains) (domainOf P u) h, lt-leb (P .domains) (domainOf P v) l, e)
+
+    pub cell-bad : 1 < getD (P .table) i 0 → refused (cellRefusal 8 k (P .domains) i) ≡ looked
+    cell-bad b = sym (cell-rule ∙ rw (lt-ltb 1 (answer k P u a v) (omega (arith, at))))
+
+    pub cell-grants : getD (P .table) i 0 ≡ 1 → values (1 ∷ []) ≡ looked
+    cell-grants b = sym (cell-rule ∙ rw (le-ltb 1 (answer k P u a v) (omega (arith, at)), eq-eqb (answer k P u a v) 1 (sym at ∙ b)))
+
+    pub cell-denies : getD (P .table) i 0 ≤ 1 → ¬ (getD (P .table) i 0 ≡ 1) → values (0 ∷ []) ≡ looked
+    cell-denies b f = sym (cell-rule ∙ rw (le-ltb 1 (answer k P u a v) (omega (arith, at)), ne-eqb (answer k P u a v) 1 (λ g. f (at ∙ g))))

@@ -63,7 +63,7 @@ fn look(k: usize, d: usize, u: usize, a: usize, v: usize, assignment: &[u8], tab
     if d <= q {
         return Asked::Refused(scan::refuse(6, v));
     }
-    let i = (p * k + a) * d + q;
+    let i = scan::cell_at(d, k, d, p, a, q);
     let x = table[i];
     if 1 < x {
         return Asked::Refused(scan::refuse_cell(8, k, d, i));

@@ -2,9 +2,10 @@
 use Prim.Native.Nat.{ℕ}
 use Rattle.model.specs.Matrix.{Cells}
 use Rattle.model.proofs.Alike.{alike-iff, alike-itself, alike-back, alike-on, alike-sound, alike-complete}
-use Rattle.model.proofs.Built.{built-alike, built-edge, built-valid, built-enforces, built-used, built-fewest, built-together, together-alike}
+use Rattle.model.proofs.Built.{built-alike, built-rises, built-edge, built-valid, built-enforces, built-used, built-fewest, built-together, together-alike}
 use Rattle.model.proofs.Fillings.{enforces-filling}
-use Rattle.claims.specs.Paper.{AlikeEquivalence, AlikeLines, AlikeTested, SharedAlike, TogetherAlike, Demand3, TableEdges, BuiltEnforces, FewestDomains, EnforcesFilling}
+use Rattle.claims.specs.Paper.{AlikeEquivalence, AlikeLines, AlikeTested, SharedAlike, NumberedInOrder, TogetherAlike}
+use Rattle.claims.specs.Paper.{Demand3, TableEdges, BuiltEnforces, FewestDomains, EnforcesFilling}
 
 module _ (n k : ℕ) (M : Cells) where
   pub alike-equivalence : AlikeEquivalence n k M
@@ -18,6 +19,9 @@ module _ (n k : ℕ) (M : Cells) where
 
   pub shared-alike : (u v : ℕ) → SharedAlike n k M u v
   shared-alike u v h l = built-alike n k M u v h l
+
+  pub numbered-in-order : (u v : ℕ) → NumberedInOrder n k M u v
+  numbered-in-order u v h l b = built-rises n k M u v h l b
 
   pub lemma-A6 : (u v : ℕ) → TogetherAlike n k M u v
   lemma-A6 u v P full E h l s = together-alike n k M P full E u v h l s

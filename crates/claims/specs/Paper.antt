@@ -5,7 +5,9 @@ use Prim.Native.Nat.{ℕ, _≤_, _<_}
 use lib.Dec.{T}
 use Rattle.model.specs.Matrix.{Cells, cell, Full, Fills}
 use Rattle.model.specs.Alike.{Alike, SameRows, flip, alike?}
-use Rattle.model.specs.Policy.{Policy, domainOf, Valid, answer, Enforces, Edge, used, built, Together}
+use Rattle.model.specs.Classes.{smallest}
+use Rattle.model.specs.Policy.{Policy, domainOf, Valid, Enforces, used, Together}
+use Rattle.model.specs.Built.{Edge, built}
 
 -- u and v share a domain in the built policy
 abbrev pub Share : ℕ → ℕ → Cells → ℕ → ℕ → Type 0
@@ -29,6 +31,11 @@ module _ (n k : ℕ) (M : Cells) (u v : ℕ) where
   -- Definition 2.13: one domain for each class
   abbrev pub SharedAlike : Type 0
   SharedAlike = u < n → v < n → Share n k M u v ↔ Alike n k M u v
+
+  -- domains are numbered in order of their smallest members
+  abbrev pub NumberedInOrder : Type 0
+  NumberedInOrder = u < n → v < n → smallest n (alike? n k M) u < smallest n (alike? n k M) v
+      → domainOf (built n k M) u < domainOf (built n k M) v
 
   -- Lemma A.6: what an enforcing policy puts together is alike, whatever its number of domains
   abbrev pub TogetherAlike : Type 0

@@ -12,13 +12,15 @@ use lib.ListN.{length}
 use Rattle.model.specs.Below.{any}
 use Rattle.model.specs.Matrix.{Cells, cellAt, cell, Full}
 use Rattle.model.specs.Alike.{Alike, SameRows, alike?, flip}
-use Rattle.model.specs.Classes.{classes, classOf, memberOf}
-use Rattle.model.specs.Policy.{Policy, domainOf, Valid, answer, Enforces, Edge, labels, used, tableOf, built, Together}
+use Rattle.model.specs.Classes.{smallest, classes, classOf, memberOf}
+use Rattle.model.specs.Policy.{Policy, domainOf, Valid, answer, Enforces, labels, used, Together}
+use Rattle.model.specs.Built.{Edge, tableOf, built}
 use Rattle.model.proofs.Tests.{same-test}
 use Rattle.model.proofs.Below.{any-at, any-of, length-tab, getD-tab}
 use Rattle.model.proofs.Count.{count-same}
 use Rattle.model.proofs.Places.{cell-inside, place, table-at}
-use Rattle.model.proofs.Classes.{classes-le, class-same, class-apart, class-below, class-hit, member-in, member-below, member-low, fewest, all-used}
+use Rattle.model.proofs.Classes.{classes-le, class-same, class-apart, class-below, class-rises, class-hit, fewest, all-used}
+use Rattle.model.proofs.Classes.{member-in, member-below, member-low}
 use Rattle.model.proofs.Alike.{alike-iff, alike-sound, alike-complete, alike-equivalence}
 use Rattle.model.proofs.Shared.{shared-rows, shared-columns}
 
@@ -40,6 +42,11 @@ module _ (n k : ℕ) (M : Cells) where
   pub built-few : built n k M .domains ≤ n
   unfolding built
   built-few = classes-le n (alike? n k M)
+
+  -- the domains are numbered in order of their smallest members
+  pub built-rises : (u v : ℕ) → u < n → v < n → smallest n (alike? n k M) u < smallest n (alike? n k M) v
+      → domainOf (built n k M) u < domainOf (built n k M) v
+  built-rises u v h l b = rw (built-domain u h, built-domain v l) (class-rises n (alike? n k M) (alike-equivalence n k M) u v h b)
 
   -- entities share a built domain exactly where they are alike
   pub built-alike : (u v : ℕ) → u < n → v < n → (domainOf (built n k M) u ≡ domainOf (built n k M) v) ↔ Alike n k M u v

@@ -70,6 +70,11 @@ module _ (n : ℕ) (e : ℕ → ℕ → Bool) (E : Equivalence n e) where
   unfolding classOf classes
   class-below u h = count-past (isSmallest n e) (smallest n e u) n (smallest-is u h) (smallest-below u h)
 
+  -- the numbers rise with the smallest members
+  pub class-rises : (u v : ℕ) → u < n → smallest n e u < smallest n e v → classOf n e u < classOf n e v
+  unfolding classOf
+  class-rises u v h l = count-past (isSmallest n e) (smallest n e u) (smallest n e v) (smallest-is u h) l
+
   -- no number goes unused
   pub class-hit : (c : ℕ) → c < classes n e → (u : ℕ) × (u < n) × (classOf n e u ≡ c)
   unfolding classes classOf isSmallest

@@ -8,7 +8,7 @@ use native.Mathlib.Omega.{arith}
 use lib.Arith.{digits-lt, digits-div, digits-mod}
 use Rattle.model.specs.Below.{tab}
 use Rattle.model.specs.Matrix.{Cells, cellAt, cell}
-use Rattle.model.specs.Policy.{tableOf}
+use Rattle.model.specs.Built.{tableOf}
 use Rattle.model.proofs.Below.{getD-tab}
 
 -- among x senders, k rights and y receivers

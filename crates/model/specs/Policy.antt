@@ -1,15 +1,11 @@
--- Policies, what they grant and enforce, and the built policy (01, "Matrix and policy" and "Alike"; Definitions 2.2, 2.3, 2.13).
--- Assumes nothing.
+-- Policies, what they grant and what they enforce (01, "Matrix and policy"; Definitions 2.2, 2.3, 3.1). Assumes nothing.
 use mathlib.Core.Path.{_≡_}
-use mathlib.Core.Bool.{Bool}
 use mathlib.Core.List.{List}
-use Prim.Native.Nat.{ℕ, _*_, _/_, _%_, _≤_, _<_}
+use Prim.Native.Nat.{ℕ, _*_, _≤_, _<_}
 use lib.ListN.{length, getD}
 use lib.Dec.{eqb}
-use Rattle.model.specs.Below.{any, count, tab}
+use Rattle.model.specs.Below.{any, count}
 use Rattle.model.specs.Matrix.{Cells, cell}
-use Rattle.model.specs.Alike.{alike?}
-use Rattle.model.specs.Classes.{classes, classOf, memberOf}
 
 pub record Policy : Type 0 where
   pub domains : ℕ
@@ -44,10 +40,6 @@ pub record Agrees (n k : ℕ) (M G : Cells) : Type 0 where
 abbrev pub Enforces : ℕ → ℕ → Cells → Policy → Type 0
 Enforces n k M P = Agrees n k M (answer k P)
 
--- Definition 2.13's edge: some member of p may use right a towards some member of q
-abbrev pub Edge : ℕ → Cells → Policy → ℕ → ℕ → ℕ → Type 0
-Edge n M P p a q = (u : ℕ) × (v : ℕ) × (u < n) × (v < n) × (domainOf P u ≡ p) × (domainOf P v ≡ q) × (M u a v ≡ 1)
-
 -- how many of d labels have a member, where f gives each entity its label
 unfoldable pub labels : ℕ → ℕ → (ℕ → ℕ) → ℕ
 labels n d f = count d (λ p. any n (λ u. eqb (f u) p))
@@ -55,18 +47,6 @@ labels n d f = count d (λ p. any n (λ u. eqb (f u) p))
 -- how many domains have a member
 unfoldable pub used : ℕ → Policy → ℕ
 used n P = labels n (P .domains) (domainOf P)
-
--- the table of s by k by t whose cell (p, a, q) is M (r p) a (c q)
-unfoldable pub tableOf : ℕ → ℕ → ℕ → Cells → (ℕ → ℕ) → (ℕ → ℕ) → List ℕ
-tableOf s t k M r c = tab (s * k * t) (λ i. M (r (i / t / k)) (i / t % k) (c (i % t)))
-
--- one domain for each class of alike entities, in order of smallest members; the table's cells are theirs
-unfoldable pub built : ℕ → ℕ → Cells → Policy
-built n k M = record {
-  domains = classes n (alike? n k M);
-  assignment = tab n (classOf n (alike? n k M));
-  table = tableOf (classes n (alike? n k M)) (classes n (alike? n k M)) k M (memberOf n (alike? n k M)) (memberOf n (alike? n k M));
-}
 
 -- some policy of at most d domains that enforces M puts u and v together
 pub record Together (d n k : ℕ) (M : Cells) (u v : ℕ) : Type 0 where

@@ -9,6 +9,7 @@ ghost use lib.Dec.{leb};
 ghost use lib.ListN.{length, getD};
 ghost use Rattle.model.specs.declared.Checked.the-variants.{Fine};
 ghost use Rattle.model.specs.Below.{any};
+ghost use Rattle.model.specs.Matrix.{cellAt};
 ghost use Rattle.model.specs.Refusal.{refusal, cellRefusal, checked};
 ghost use Rattle.model.specs.Rules.{lowest, sizeRules, matrixRules, fullRules, assignmentRules, tableRules, requestRules, pairRules, roomRules};
 
@@ -87,6 +88,14 @@ pub fn lowest_from(s: &[u8], b: usize) -> usize
         return s.len();
     }
     lowest_by_blocks(s, b as u8)
+}
+
+// Where cell (p, a, q) stands among x senders, k rights and y receivers.
+pub fn cell_at(x: usize, k: usize, y: usize, p: usize, a: usize, q: usize) -> usize
+    requires { ⌜ (x ≤ 64) × (k ≤ 8) × (y ≤ 64) × (p < x) × (a < k) × (q < y) ⌝ }
+    ensures { λ r. ⌜ (r ≡ cellAt k y p a q) × (r < x * k * y) ⌝ }
+{
+    (p * k + a) * y + q
 }
 
 // 1: n above 64; k 0 or above 8; d above 64. A call that has no d passes 0.

@@ -93,5 +93,4 @@ module _ (n k u a v : ℕ) (P : Policy) where
       go (Bad r) e = gives-bad Room (askRules n k u a v P) ask-room r e
 
 pub ask-kept : AskKept
-ask-kept n k u a v n′ k′ u′ a′ v′ P P′ e =
-    word-kept (1 ∷ []) (askTold n k u a v P) (askTold n′ k′ u′ a′ v′ P′) (ask-held n k u a v P) (ask-held n′ k′ u′ a′ v′ P′) e
+ask-kept n k u a v P = word-kept (1 ∷ []) (askTold n k u a v P) (ask-held n k u a v P)

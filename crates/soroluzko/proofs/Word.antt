@@ -1,61 +1,65 @@
 -- The word loses nothing: its remainder by 256 is the refusal's number, which is 0 only where nothing is refused; and values that have
 -- room in their fields are the digits of what is above. Assumes nothing.
-use mathlib.Core.Path.{_≡_, refl, sym, ap, ap₂, _∙_}
+use mathlib.Core.Path.{_≡_, refl, ap, ap₂, _∙_}
 use mathlib.Core.List.{List, [], _∷_}
 use Prim.Native.Nat.{ℕ, _+_, _*_, _/_, _%_, _^_, _<_}
-use native.Mathlib.Nat.{mul-comm, add-comm}
+use native.Mathlib.Nat.{mul-comm, add-comm, mod-eq-of-lt}
 use native.Mathlib.Omega.{arith}
+use borrow.Author.Tests.{eq-eqb, ne-eqb}
 use lib.Arith.{digits-div, digits-mod}
-use Rattle.model.specs.declared.Refusal.{Refusal}
 use Rattle.model.specs.Refusal.{Told, values, refused}
-use Rattle.soroluzko.specs.Word.{fields, word, Room}
+use Rattle.soroluzko.specs.Word.{fields, unfields, word, unword, Room}
+
+-- a sum's low digit, and what is above it
+turned : (b x f : ℕ) → x + b * f ≡ f * b + x
+turned b x f = add-comm x (b * f) ∙ ap (λ (y : ℕ). y + x) (mul-comm b f)
+
+low : (b x f : ℕ) → x < b → (x + b * f) % b ≡ x
+low b x f h = ap (λ (y : ℕ). y % b) (turned b x f) ∙ digits-mod f h
+
+high : (b x f : ℕ) → x < b → (x + b * f) / b ≡ f
+high b x f h = ap (λ (y : ℕ). y / b) (turned b x f) ∙ digits-div f h
 
 -- a value for each field, and each has room in its own
 pub data Fit : List ℕ → List ℕ → Type 0 where
   none : Fit [] []
   more : {w : ℕ} {ws : List ℕ} {x : ℕ} {vs : List ℕ} → x < 2 ^ w → Fit ws vs → Fit (w ∷ ws) (x ∷ vs)
 
--- a sum's low digit and what is above it
-digits : (b x y f g : ℕ) → x < b → y < b → x + b * f ≡ y + b * g → (x ≡ y) × (f ≡ g)
-digits b x y f g h l e =
-    let q : f * b + x ≡ g * b + y = rw (mul-comm f b, mul-comm g b, add-comm (b * f) x, add-comm (b * g) y) e in
-    (sym (digits-mod f h) ∙ ap (λ (z : ℕ). z % b) q ∙ digits-mod g l, sym (digits-div f h) ∙ ap (λ (z : ℕ). z / b) q ∙ digits-div g l)
-
-pub fields-kept : (ws vs vs′ : List ℕ) → Fit ws vs → Fit ws vs′ → fields ws vs ≡ fields ws vs′ → vs ≡ vs′
-unfolding fields
-fields-kept [] [] [] none none e = refl
-fields-kept (w ∷ ws) (x ∷ vs) (y ∷ vs′) (more h f) (more l g) e =
-    let d = digits (2 ^ w) x y (fields ws vs) (fields ws vs′) h l e in
-    ap₂ (λ (z : ℕ) (zs : List ℕ). z ∷ zs) (d .0) (fields-kept ws vs vs′ f g (d .1))
+fields-kept : (ws vs : List ℕ) → Fit ws vs → unfields ws (fields ws vs) ≡ vs
+unfolding fields unfields
+fields-kept [] [] none = refl
+fields-kept (w ∷ ws) (x ∷ vs) (more h f) =
+    ap₂ (λ (y : ℕ) (ys : List ℕ). y ∷ ys) (low (2 ^ w) x (fields ws vs) h)
+    (ap (unfields ws) (high (2 ^ w) x (fields ws vs) h) ∙ fields-kept ws vs f)
 
 -- what has room in the word
 abbrev pub Held : List ℕ → Told → Type 0
 Held ws (values vs) = Fit ws vs
 Held ws (refused r) = Room r
 
-one : {x : ℕ} → x < 2 ^ 24 → Fit (24 ∷ []) (x ∷ [])
-one h = more h none
+module _ (ws : List ℕ) (y : ℕ) where
+  unword-values : y % 256 ≡ 0 → unword ws y ≡ values (unfields ws (y / 256))
+  unfolding unword
+  unword-values e = rw (eq-eqb (y % 256) 0 e)
 
--- ---- the word
+  unword-refused : ¬ (y % 256 ≡ 0) → unword ws y ≡ refused (record { number = y % 256; place = y / 256 % 2 ^ 24 })
+  unfolding unword
+  unword-refused f = rw (ne-eqb (y % 256) 0 f)
 
-module _ (ws : List ℕ) where
-  low : (vs : List ℕ) (r : Refusal) → Room r → 256 * fields ws vs ≡ r .number + 256 * fields (24 ∷ []) (r .place ∷ []) → ⊥
-  low vs r h e =
-      let d = digits 256 0 (r .number) (fields ws vs) (fields (24 ∷ []) (r .place ∷ [])) (omega arith) (h .number) (omega arith) in
-      omega (arith, h .given, d .0)
+pub word-kept : (ws : List ℕ) (t : Told) → Held ws t → unword ws (word ws t) ≡ t
+unfolding word
+word-kept ws (values vs) h =
+    unword-values ws (256 * fields ws vs) (omega arith)
+    ∙ ap (λ (y : ℕ). values (unfields ws y)) (above (fields ws vs)) ∙ ap values (fields-kept ws vs h)
+  where
+    above : (f : ℕ) → 256 * f / 256 ≡ f
+    above f = omega arith
+word-kept ws (refused r) h =
+    unword-refused ws (r .number + 256 * r .place) (λ e. omega (arith, h .given, p))
+    ∙ (λ i. refused (record { number = p i; place = q i }))
+  where
+    p : (r .number + 256 * r .place) % 256 ≡ r .number
+    p = low 256 (r .number) (r .place) (h .number)
 
-  pub word-kept : (t t′ : Told) → Held ws t → Held ws t′ → word ws t ≡ word ws t′ → t ≡ t′
-  unfolding word
-  word-kept (values vs) (values vs′) h l e = ap values (fields-kept ws vs vs′ h l (omega arith))
-  word-kept (values vs) (refused r) h l e = absurd (low vs r l e)
-  word-kept (refused r) (values vs) h l e = absurd (low vs r h (sym e))
-  word-kept (refused r) (refused s) h l e =
-      let d = digits 256 (r .number) (s .number) (fields (24 ∷ []) (r .place ∷ [])) (fields (24 ∷ []) (s .place ∷ [])) (h .number) (l .number) e in
-      let p = fields-kept (24 ∷ []) (r .place ∷ []) (s .place ∷ []) (one (h .place)) (one (l .place)) (d .1) in
-      ap refused (same r s (d .0) (head p))
-    where
-      head : {x y : ℕ} → (x ∷ []) ≡ (y ∷ []) → x ≡ y
-      head e = cc
-
-      same : (r s : Refusal) → r .number ≡ s .number → r .place ≡ s .place → r ≡ s
-      same r s e f = λ i. record { number = e i; place = f i }
+    q : (r .number + 256 * r .place) / 256 % 2 ^ 24 ≡ r .place
+    q = ap (λ (z : ℕ). z % 2 ^ 24) (high 256 (r .number) (r .place) (h .number)) ∙ mod-eq-of-lt (h .place)

@@ -1,22 +1,31 @@
 -- The word that C gets for an answer: the refusal's number in the low byte (0: none), above it the place, or the values. Assumes nothing.
 use mathlib.Core.Path.{_≡_}
+use mathlib.Core.Bool.{cond}
 use mathlib.Core.List.{List, [], _∷_}
-use Prim.Native.Nat.{ℕ, _+_, _*_, _^_, _<_}
+use Prim.Native.Nat.{ℕ, _+_, _*_, _/_, _%_, _^_, _<_}
+use lib.Dec.{eqb}
 use Rattle.model.specs.declared.Refusal.{Refusal}
 use Rattle.model.specs.Policy.{Policy}
 use Rattle.model.specs.Refusal.{Told, values, refused}
 use Rattle.ask.specs.Ask.{askTold}
 
--- values side by side in fields of so many bits, the first one lowest
+-- values side by side in fields of so many bits, the first one lowest; and taken out again
 unfoldable pub fields : List ℕ → List ℕ → ℕ
 fields [] vs = 0
 fields (w ∷ ws) [] = 0
 fields (w ∷ ws) (x ∷ vs) = x + 2 ^ w * fields ws vs
 
--- a refusal's place has 24 bits
+unfoldable pub unfields : List ℕ → ℕ → List ℕ
+unfields [] y = []
+unfields (w ∷ ws) y = y % 2 ^ w ∷ unfields ws (y / 2 ^ w)
+
+-- the word of what is told, and what a word tells. A refusal's place has 24 bits
 unfoldable pub word : List ℕ → Told → ℕ
 word ws (values vs) = 256 * fields ws vs
-word ws (refused r) = r .number + 256 * fields (24 ∷ []) (r .place ∷ [])
+word ws (refused r) = r .number + 256 * r .place
+
+unfoldable pub unword : List ℕ → ℕ → Told
+unword ws y = cond (eqb (y % 256) 0) (values (unfields ws (y / 256))) (refused (record { number = y % 256; place = y / 256 % 2 ^ 24 }))
 
 -- a refusal whose number and place have room there
 pub record Room (r : Refusal) : Type 0 where
@@ -28,7 +37,6 @@ pub record Room (r : Refusal) : Type 0 where
 abbrev pub askWord : ℕ → ℕ → ℕ → ℕ → ℕ → Policy → ℕ
 askWord n k u a v P = word (1 ∷ []) (askTold n k u a v P)
 
--- nothing is lost: where the words are the same, so are the answers
+-- nothing is lost: the word tells what the ask told
 abbrev pub AskKept : Type 0
-AskKept = (n k u a v n′ k′ u′ a′ v′ : ℕ) (P P′ : Policy)
-    → askWord n k u a v P ≡ askWord n′ k′ u′ a′ v′ P′ → askTold n k u a v P ≡ askTold n′ k′ u′ a′ v′ P′
+AskKept = (n k u a v : ℕ) (P : Policy) → unword (1 ∷ []) (askWord n k u a v P) ≡ askTold n k u a v P

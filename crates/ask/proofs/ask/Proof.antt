@@ -3,7 +3,7 @@
 use mathlib.Core.Path.{_≡_, sym, ap, _∙_}
 use native.Mathlib.Omega.{arith}
 use Rattle.model.specs.declared.Checked.the-variants.{Fine, Bad}
-use Rattle.model.specs.Policy.{policy}
+use Rattle.model.specs.Policy.{Policy, policy}
 use Rattle.model.specs.Refusal.{checked, refused}
 use Rattle.model.specs.Rules.{sizeRules, requestRules}
 use Rattle.model.proofs.Rules.{Sized, sizes-fine, request-fine}
@@ -14,15 +14,24 @@ use borrow.Author.Needs.{needs}
 use Rattle.ask.proofs.ask.Statement.{statement}
 use Rattle.ask.proofs.ask.Tie as tie
 
--- once the sizes were found in order
-sized : (c : tie.After-enum-told) → let a = c .before .before .before .before .before .args in checked (sizeRules (a .n) (a .k) (a .d)) ≡ Fine
+-- the entry, seen from where the sizes were found in order; the policy; and what those tests tell
+abbrev entry : tie.After-enum-told → tie.Start
+entry c = c .before .before .before .before .before
+
+abbrev P : tie.After-enum-told → Policy
+P c = let a = entry c .args in policy (a .d) (a .assignment .now) (a .table .now)
+
+sized : (c : tie.After-enum-told) → let a = entry c .args in checked (sizeRules (a .n) (a .k) (a .d)) ≡ Fine
 sized c = sym (c .before .before .sizes .ensures) ∙ c .enum-told .given .1
 
-limits : (c : tie.After-enum-told) → let a = c .before .before .before .before .before .args in Sized (a .n) (a .k) (a .d)
-limits c = let a = c .before .before .before .before .before .args in sizes-fine (a .n) (a .k) (a .d) (sized c)
+limits : (c : tie.After-enum-told) → let a = entry c .args in Sized (a .n) (a .k) (a .d)
+limits c = let a = entry c .args in sizes-fine (a .n) (a .k) (a .d) (sized c)
 
--- once the request was found in range
-asked : (c : tie.After-enum-told2) → let a = c .before .before .before .before .before .before .before .before .before .before .args in checked (requestRules (a .n) (a .k) (a .u) (a .a) (a .v)) ≡ Fine
+-- from where the request was found in range, back to there
+abbrev back : tie.After-enum-told2 → tie.After-enum-told
+back c = c .before .before .before .before .before
+
+asked : (c : tie.After-enum-told2) → let a = entry (back c) .args in checked (requestRules (a .n) (a .k) (a .u) (a .a) (a .v)) ≡ Fine
 asked c = sym (c .before .before .request-fits .ensures) ∙ c .enum-told2 .given .1
 
 sizes-requires : tie.Need-sizes-requires
@@ -44,9 +53,10 @@ refuse-requires : tie.Need-refuse-requires
 refuse-requires c κs = search needs
 
 returns-2 : tie.Need-returns-2
-returns-2 c = ap refused (c .refuse .ensures) ∙ (
-    let a = c .before .before .before .before .before .before .before .args in
-    assignment-bad (a .n) (a .k) (a .u) (a .a) (a .v) (policy (a .d) (a .assignment .now) (a .table .now)) (sized (c .before .before)) (omega arith))
+returns-2 c =
+    let s = c .before .before in
+    let a = entry s .args in
+    ap refused (c .refuse .ensures) ∙ assignment-bad (a .n) (a .k) (a .u) (a .a) (a .v) (P s) (sized s) (omega arith)
 
 mul-if2 : tie.Need-mul-if2
 mul-if2 c = let l = limits (c .before) in omega (arith, room (l .domains) (l .rights) (l .domains) .rows)
@@ -58,9 +68,10 @@ refuse-requires-2 : tie.Need-refuse-requires-2
 refuse-requires-2 c κs = search needs
 
 returns-3 : tie.Need-returns-3
-returns-3 c = ap refused (c .refuse2 .ensures) ∙ (
-    let a = c .before .before .before .before .before .before .before .before .args in
-    table-bad (a .n) (a .k) (a .u) (a .a) (a .v) (policy (a .d) (a .assignment .now) (a .table .now)) (sized (c .before .before .before)) (omega arith) (omega arith))
+returns-3 c =
+    let s = c .before .before .before in
+    let a = entry s .args in
+    ap refused (c .refuse2 .ensures) ∙ table-bad (a .n) (a .k) (a .u) (a .a) (a .v) (P s) (sized s) (omega arith) (omega arith)
 
 request-fits-requires : tie.Need-request-fits-requires
 request-fits-requires c κs = search needs
@@ -70,8 +81,9 @@ enum-known-request c = search needs
 
 returns-4 : tie.Need-returns-4
 returns-4 c =
-    let a = c .before .before .before .before .before .before .before .before .before .before .before .args in
-    request-bad (a .n) (a .k) (a .u) (a .a) (a .v) (policy (a .d) (a .assignment .now) (a .table .now)) (sized (c .before .before .before .before .before .before)) (omega arith) (omega arith) _
+    let s = c .before .before .before .before .before .before in
+    let a = entry s .args in
+    request-bad (a .n) (a .k) (a .u) (a .a) (a .v) (P s) (sized s) (omega arith) (omega arith) _
     (sym (c .before .before .before .request-fits .ensures) ∙ c .before .request .given .1)
 
 enum-told-2 : tie.Need-enum-told-2
@@ -79,17 +91,18 @@ enum-told-2 c = search needs
 
 look-requires : tie.Need-look-requires
 look-requires c κs =
-    let a = c .before .before .before .before .before .before .before .before .before .before .args in
-    let l = limits (c .before .before .before .before .before) in
+    let s = back c in
+    let a = entry s .args in
+    let l = limits s in
     let r = request-fine (a .n) (a .k) (a .u) (a .a) (a .v) (asked c) in
     ((l .rights, l .domains, omega arith), (omega (arith, r .0), r .1, omega (arith, r .2)))
 
 returns-5 : tie.Need-returns-5
 returns-5 c =
-    let a = c .before .before .before .before .before .before .before .before .before .before .before .args in
-    let P = policy (a .d) (a .assignment .now) (a .table .now) in
-    let q = looks (a .n) (a .k) (a .u) (a .a) (a .v) P (sized (c .before .before .before .before .before .before)) (omega arith) (omega arith) (asked (c .before)) in
-    c .look .ensures ∙ told (a .n) (a .k) (a .u) (a .a) (a .v) P (checked (lookRules (a .k) (a .u) (a .a) (a .v) P)) q
+    let s = back (c .before) in
+    let a = entry s .args in
+    let q = looks (a .n) (a .k) (a .u) (a .a) (a .v) (P s) (sized s) (omega arith) (omega arith) (asked (c .before)) in
+    c .look .ensures ∙ told (a .n) (a .k) (a .u) (a .a) (a .v) (P s) (checked (lookRules (a .k) (a .u) (a .a) (a .v) (P s))) q
 
 pub ask-spec : {M : Type 1} → statement M
 ask-spec =

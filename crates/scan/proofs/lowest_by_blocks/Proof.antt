@@ -63,7 +63,9 @@ lowest-in-requires : tie.Need-lowest-in-requires Inv-loop μ-loop
 lowest-in-requires c κs = search needs
 
 add-result : tie.Need-add-result Inv-loop μ-loop
-add-result c = let args = c .before .before .before .before .before .before .before .before .before .args in omega (arith, found c, lowest-le (leb (args .b)) (args .s .now))
+add-result c =
+    let args = c .before .before .before .before .before .before .before .before .before .args in
+    omega (arith, found c, lowest-le (leb (args .b)) (args .s .now))
 
 returns : tie.Need-returns Inv-loop μ-loop
 returns c = found c
@@ -76,7 +78,8 @@ loop-again c =
     let loop = c .before .before .before .before .before .loop in
     let args = c .before .before .before .before .before .before .before .args in
     let e = c .before .before .before .block-end .result in
-    (omega arith, block-none (leb (args .b)) (args .s .now) (loop .i) e (omega arith) (omega arith) (loop .inv .1) (sym (c .before .reaches .ensures) ∙ c .if1 .left))
+    let none = sym (c .before .reaches .ensures) ∙ c .if1 .left in
+    (omega arith, block-none (leb (args .b)) (args .s .now) (loop .i) e (omega arith) (omega arith) (loop .inv .1) none)
 
 returns-2 : tie.Need-returns-2 Inv-loop μ-loop
 returns-2 c = lowest-end _ _ _ (omega arith) (c .before .loop .inv .1)

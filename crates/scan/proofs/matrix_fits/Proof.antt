@@ -23,7 +23,10 @@ refuse-requires c κs = search needs
 
 returns : tie.Need-returns
 unfolding matrixRules
-returns c = let a = c .before .before .before .args in ap Bad (c .refuse .ensures) ∙ list-short 2 (a .n * a .k * a .n) (ltb 2) (a .m .now) (cellRefusal 3 (a .k) (a .n)) (omega arith)
+returns c =
+    let a = c .before .before .before .args in
+    ap Bad (c .refuse .ensures)
+    ∙ list-short 2 (a .n * a .k * a .n) (ltb 2) (a .m .now) (cellRefusal 3 (a .k) (a .n)) (omega arith)
 
 lowest-from-requires : tie.Need-lowest-from-requires
 lowest-from-requires c κs = search needs
@@ -36,7 +39,9 @@ unfolding matrixRules
 returns-2 c =
     let a = c .before .before .before .before .before .args in
     let i = c .before .before .lowest-from in
-    ap Bad (c .refuse-cell .ensures) ∙ list-bad 2 (a .n * a .k * a .n) (ltb 2) (a .m .now) (cellRefusal 3 (a .k) (a .n)) (i .result) (omega arith) (i .ensures) (omega arith)
+    ap Bad (c .refuse-cell .ensures)
+    ∙ list-bad 2 (a .n * a .k * a .n) (ltb 2) (a .m .now) (cellRefusal 3 (a .k) (a .n))
+    (i .result) (omega arith) (i .ensures) (omega arith)
 
 returns-3 : tie.Need-returns-3
 unfolding matrixRules

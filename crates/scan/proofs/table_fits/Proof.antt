@@ -23,7 +23,10 @@ refuse-requires c κs = search needs
 
 returns : tie.Need-returns
 unfolding tableRules
-returns c = let a = c .before .before .before .args in ap Bad (c .refuse .ensures) ∙ list-short 7 (a .d * a .k * a .d) (ltb 1) (a .t .now) (cellRefusal 8 (a .k) (a .d)) (omega arith)
+returns c =
+    let a = c .before .before .before .args in
+    ap Bad (c .refuse .ensures)
+    ∙ list-short 7 (a .d * a .k * a .d) (ltb 1) (a .t .now) (cellRefusal 8 (a .k) (a .d)) (omega arith)
 
 lowest-from-requires : tie.Need-lowest-from-requires
 lowest-from-requires c κs = search needs
@@ -36,7 +39,9 @@ unfolding tableRules
 returns-2 c =
     let a = c .before .before .before .before .before .args in
     let i = c .before .before .lowest-from in
-    ap Bad (c .refuse-cell .ensures) ∙ list-bad 7 (a .d * a .k * a .d) (ltb 1) (a .t .now) (cellRefusal 8 (a .k) (a .d)) (i .result) (omega arith) (i .ensures) (omega arith)
+    ap Bad (c .refuse-cell .ensures)
+    ∙ list-bad 7 (a .d * a .k * a .d) (ltb 1) (a .t .now) (cellRefusal 8 (a .k) (a .d))
+    (i .result) (omega arith) (i .ensures) (omega arith)
 
 returns-3 : tie.Need-returns-3
 unfolding tableRules

@@ -1,6 +1,6 @@
 -- `soroluzko::refusal_word` meets its contract: the sum is the word, and it fits since number and place have room. Assumes nothing.
 use native.Mathlib.Omega.{arith}
-use Rattle.soroluzko.specs.Word.{fields, word}
+use Rattle.soroluzko.specs.Word.{word}
 use borrow.Author.Needs.{needs}
 use Rattle.soroluzko.proofs.refusal_word.Statement.{statement}
 use Rattle.soroluzko.proofs.refusal_word.Tie as tie
@@ -12,7 +12,7 @@ add-result : tie.Need-add-result
 add-result c = search needs
 
 returns : tie.Need-returns
-unfolding word fields
+unfolding word
 returns c = omega arith
 
 pub refusal-word-spec : {M : Type 1} → statement M

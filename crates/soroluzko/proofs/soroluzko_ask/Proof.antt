@@ -2,7 +2,6 @@
 -- Assumes nothing.
 use mathlib.Core.Path.{sym, ap, _∙_, subst}
 use mathlib.Core.List.{[], _∷_}
-use Rattle.model.specs.Policy.{policy}
 use Rattle.ask.specs.Ask.{askedTold}
 use Rattle.soroluzko.specs.Word.{fields, word}
 use Rattle.soroluzko.proofs.Word.{Held}
@@ -25,8 +24,7 @@ enum-known-asked c = search needs
 
 refusal-word-requires : tie.Need-refusal-word-requires
 refusal-word-requires c κs =
-    let a = c .before .before .before .before .before .before .args in
-    subst (Held (1 ∷ [])) (sym (c .before .before .before .ask .ensures) ∙ ap askedTold (c .before .asked .given .1)) (ask-held (a .n) (a .k) (a .u) (a .a) (a .v) (policy (a .d) (a .assignment .now) (a .table .now)))
+    subst (Held (1 ∷ [])) (sym (c .before .before .before .ask .ensures) ∙ ap askedTold (c .before .asked .given .1)) (ask-held _ _ _ _ _ _)
 
 returns : tie.Need-returns
 unfolding word fields
@@ -38,7 +36,9 @@ returns-2 c = ap (word (1 ∷ [])) (sym (ap askedTold (c .enum-told2 .given .1))
 
 returns-3 : tie.Need-returns-3
 unfolding word fields
-returns-3 c = c .refusal-word .ensures ∙ ap (word (1 ∷ [])) (sym (ap askedTold (c .before .before .asked .given .1)) ∙ c .before .before .before .before .ask .ensures)
+returns-3 c =
+    c .refusal-word .ensures
+    ∙ ap (word (1 ∷ [])) (sym (ap askedTold (c .before .before .asked .given .1)) ∙ c .before .before .before .before .ask .ensures)
 
 pub soroluzko-ask-spec : {M : Type 1} → statement M
 soroluzko-ask-spec =
