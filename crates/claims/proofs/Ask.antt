@@ -22,7 +22,7 @@ use Rattle.ask.specs.declared.Asked.{Asked}
 use Rattle.ask.specs.declared.Asked.the-variants.{Grant, Deny, Refused}
 use Rattle.ask.specs.Ask.{lookRules, askRules, askTold, askedTold}
 use Rattle.ask.proofs.Exits.{told, looks}
-use Rattle.claims.specs.Ask.{Agree, AskGrants, AskServes, AskAlone, AskUnique}
+use Rattle.claims.specs.Ask.{Agree, Serves, AskGrants, AskServes, AskAlone, AskUnique}
 
 one-nought : values (1 ∷ []) ≡ values (0 ∷ []) → ⊥
 one-nought e = let z : _≡_ {A = ℕ} 0 1 = cc in omega arith
@@ -48,64 +48,61 @@ module _ (n k u a v : ℕ) where
       ++ (rule (leb d p) (refusal 6 u) ∷ rule (leb d q) (refusal 6 v) ∷ rule (ltb 1 x) (cellRefusal 8 k d (cellAt k d p a q)) ∷ [])))))
       (cond (eqb x 1) 1 0 ∷ [])
 
+pub ask-unique : AskUnique
+ask-unique n k u a v P r s e f = told-apart r s (e ∙ sym f)
+
+pub ask-alone : AskAlone
+unfolding askTold askRules lookRules by
+ask-alone n k u a v P Q w r s e f = told-apart r s (e ∙ same ∙ sym f)
+  where
+    same : askTold n k u a v P ≡ askTold n k u a v Q
+    same = λ i. by n k u a v (w .domains i) (w .entities i) (w .size i) (w .sender i) (w .receiver i) (w .asked i)
+
+-- the three cases of what is told
 module _ (n k u a v : ℕ) (P : Policy) where
-  pub ask-unique : AskUnique n k u a v P
-  ask-unique r s e f = told-apart r s (e ∙ sym f)
-
-  pub ask-alone : AskAlone n k u a v P
-  unfolding askTold askRules lookRules by
-  ask-alone Q w r s e f = told-apart r s (e ∙ same ∙ sym f)
-    where
-      same : askTold n k u a v P ≡ askTold n k u a v Q
-      same = λ i. by n k u a v (w .domains i) (w .entities i) (w .size i) (w .sender i) (w .receiver i) (w .asked i)
-
-  abbrev found : Checked
-  found = checked (askRules n k u a v P)
-
-  granting : found ≡ Fine → Grants k P u a v → askTold n k u a v P ≡ values (1 ∷ [])
-  granting e g = sym (told n k u a v P Fine e) ∙ ap (λ b. values (cond b 1 0 ∷ [])) (eq-eqb (answer k P u a v) 1 g)
-
-  denying : found ≡ Fine → ¬ Grants k P u a v → askTold n k u a v P ≡ values (0 ∷ [])
-  denying e g = sym (told n k u a v P Fine e) ∙ ap (λ b. values (cond b 1 0 ∷ [])) (ne-eqb (answer k P u a v) 1 g)
-
-  refusing : (r : Refusal) → found ≡ Bad r → askTold n k u a v P ≡ refused r
-  refusing r e = sym (told n k u a v P (Bad r) e)
-
-  -- the three cases are all
   data Case : Type 0 where
-    grants : found ≡ Fine → Grants k P u a v → Case
-    denies : found ≡ Fine → ¬ Grants k P u a v → Case
-    refuses : (r : Refusal) → found ≡ Bad r → Case
+    grants : Serves n k u a v P → Grants k P u a v → Case
+    denies : Serves n k u a v P → ¬ Grants k P u a v → Case
+    refuses : (r : Refusal) → checked (askRules n k u a v P) ≡ Bad r → Case
 
   cases : Case
-  cases = go found refl (ℕ-discrete (answer k P u a v) 1)
+  cases = go (checked (askRules n k u a v P)) refl (ℕ-discrete (answer k P u a v) 1)
     where
-      go : (c : Checked) → found ≡ c → Dec (Grants k P u a v) → Case
+      go : (c : Checked) → checked (askRules n k u a v P) ≡ c → Dec (Grants k P u a v) → Case
       go Fine e (yes g) = grants e g
       go Fine e (no g) = denies e g
       go (Bad r) e _ = refuses r e
 
-  pub ask-grants : AskGrants n k u a v P
-  ask-grants r m = (
-    (λ e. granted-only (sym (ap askedTold e) ∙ m) cases, λ w. told-apart r Grant (m ∙ granting (w .0) (w .1))),
-    (λ e. denied-only (sym (ap askedTold e) ∙ m) cases, λ w. told-apart r Deny (m ∙ denying (w .0) (w .1))),
-  )
-    where
-      granted-only : values (1 ∷ []) ≡ askTold n k u a v P → Case → (found ≡ Fine) × Grants k P u a v
-      granted-only e (grants f g) = (f, g)
-      granted-only e (denies f g) = absurd (one-nought (e ∙ denying f g))
-      granted-only e (refuses s f) = absurd (values-refused (1 ∷ []) s (e ∙ refusing s f))
+  granting : Serves n k u a v P → Grants k P u a v → askTold n k u a v P ≡ values (1 ∷ [])
+  granting e g = sym (told n k u a v P Fine e) ∙ ap (λ b. values (cond b 1 0 ∷ [])) (eq-eqb (answer k P u a v) 1 g)
 
-      denied-only : values (0 ∷ []) ≡ askTold n k u a v P → Case → (found ≡ Fine) × ¬ Grants k P u a v
-      denied-only e (grants f g) = absurd (one-nought (sym (e ∙ granting f g)))
-      denied-only e (denies f g) = (f, g)
-      denied-only e (refuses s f) = absurd (values-refused (0 ∷ []) s (e ∙ refusing s f))
+  denying : Serves n k u a v P → ¬ Grants k P u a v → askTold n k u a v P ≡ values (0 ∷ [])
+  denying e g = sym (told n k u a v P Fine e) ∙ ap (λ b. values (cond b 1 0 ∷ [])) (ne-eqb (answer k P u a v) 1 g)
 
-  pub ask-serves : AskServes n k u a v P
-  unfolding lookRules
-  ask-serves en ks kr dm ok h b l =
-      looks n k u a v P (sizes-pass n k (P .domains) en ks kr dm) (ok .entities) (ok .size) (request-pass n k u a v h b l)
-      ∙ rw (lt-leb (P .domains) (domainOf P u) (ok .below u h), lt-leb (P .domains) (domainOf P v) (ok .below v l), le-ltb 1 (answer k P u a v) low)
-    where
-      low : answer k P u a v ≤ 1
-      low = omega (arith, answer-low n k P ok u a v h b l)
+  refusing : (r : Refusal) → checked (askRules n k u a v P) ≡ Bad r → askTold n k u a v P ≡ refused r
+  refusing r e = sym (told n k u a v P (Bad r) e)
+
+  granted-only : values (1 ∷ []) ≡ askTold n k u a v P → Case → Serves n k u a v P × Grants k P u a v
+  granted-only e (grants f g) = (f, g)
+  granted-only e (denies f g) = absurd (one-nought (e ∙ denying f g))
+  granted-only e (refuses s f) = absurd (values-refused (1 ∷ []) s (e ∙ refusing s f))
+
+  denied-only : values (0 ∷ []) ≡ askTold n k u a v P → Case → Serves n k u a v P × ¬ Grants k P u a v
+  denied-only e (grants f g) = absurd (one-nought (sym (e ∙ granting f g)))
+  denied-only e (denies f g) = (f, g)
+  denied-only e (refuses s f) = absurd (values-refused (0 ∷ []) s (e ∙ refusing s f))
+
+pub ask-grants : AskGrants
+ask-grants n k u a v P r m = (
+  (λ e. granted-only n k u a v P (sym (ap askedTold e) ∙ m) (cases n k u a v P), λ w. told-apart r Grant (m ∙ granting n k u a v P (w .0) (w .1))),
+  (λ e. denied-only n k u a v P (sym (ap askedTold e) ∙ m) (cases n k u a v P), λ w. told-apart r Deny (m ∙ denying n k u a v P (w .0) (w .1))),
+)
+
+pub ask-serves : AskServes
+unfolding lookRules
+ask-serves n k u a v P en ks kr dm ok h b l =
+    looks n k u a v P (sizes-pass n k (P .domains) en ks kr dm) (ok .entities) (ok .size) (request-pass n k u a v h b l)
+    ∙ rw (lt-leb (P .domains) (domainOf P u) (ok .below u h), lt-leb (P .domains) (domainOf P v) (ok .below v l), le-ltb 1 (answer k P u a v) low)
+  where
+    low : answer k P u a v ≤ 1
+    low = omega (arith, answer-low n k P ok u a v h b l)

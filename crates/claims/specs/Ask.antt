@@ -19,21 +19,27 @@ pub record Agree (k u a v : ℕ) (P Q : Policy) : Type 0 where
   pub receiver : domainOf P v ≡ domainOf Q v
   pub asked : answer k P u a v ≡ answer k Q u a v
 
-module _ (n k u a v : ℕ) (P : Policy) where
-  -- demand 2: granted exactly if the policy grants, denied exactly if it does not, where no refusal applies
-  abbrev pub AskGrants : Type 0
-  AskGrants = (r : Asked) → askedTold r ≡ askTold n k u a v P
-      → ((r ≡ Grant) ↔ ((checked (askRules n k u a v P) ≡ Fine) × Grants k P u a v))
-      × ((r ≡ Deny) ↔ ((checked (askRules n k u a v P) ≡ Fine) × ¬ Grants k P u a v))
+-- r is what the ask may answer: it meets the promise
+abbrev pub Answers : ℕ → ℕ → ℕ → ℕ → ℕ → Policy → Asked → Type 0
+Answers n k u a v P r = askedTold r ≡ askTold n k u a v P
 
-  -- and none does for a request in range of a policy within the limits
-  abbrev pub AskServes : Type 0
-  AskServes = n ≤ 64 → 0 < k → k ≤ 8 → P .domains ≤ 64 → Valid n k P → u < n → a < k → v < n → checked (askRules n k u a v P) ≡ Fine
+-- no refusal applies
+abbrev pub Serves : ℕ → ℕ → ℕ → ℕ → ℕ → Policy → Type 0
+Serves n k u a v P = checked (askRules n k u a v P) ≡ Fine
 
-  -- two calls that agree on these answer alike, whatever stands in the other bytes
-  abbrev pub AskAlone : Type 0
-  AskAlone = (Q : Policy) → Agree k u a v P Q → (r s : Asked) → askedTold r ≡ askTold n k u a v P → askedTold s ≡ askTold n k u a v Q → r ≡ s
+-- demand 2: granted exactly if the policy grants, denied exactly if it does not, where no refusal applies
+abbrev pub AskGrants : Type 0
+AskGrants = (n k u a v : ℕ) (P : Policy) (r : Asked) → Answers n k u a v P r
+    → ((r ≡ Grant) ↔ (Serves n k u a v P × Grants k P u a v)) × ((r ≡ Deny) ↔ (Serves n k u a v P × ¬ Grants k P u a v))
 
-  -- two answers that meet the promise are equal
-  abbrev pub AskUnique : Type 0
-  AskUnique = (r s : Asked) → askedTold r ≡ askTold n k u a v P → askedTold s ≡ askTold n k u a v P → r ≡ s
+-- and none does for a request in range of a policy within the limits
+abbrev pub AskServes : Type 0
+AskServes = (n k u a v : ℕ) (P : Policy) → n ≤ 64 → 0 < k → k ≤ 8 → P .domains ≤ 64 → Valid n k P → u < n → a < k → v < n → Serves n k u a v P
+
+-- two calls that agree on these answer alike, whatever stands in the other bytes
+abbrev pub AskAlone : Type 0
+AskAlone = (n k u a v : ℕ) (P Q : Policy) → Agree k u a v P Q → (r s : Asked) → Answers n k u a v P r → Answers n k u a v Q s → r ≡ s
+
+-- two answers that meet the promise are equal
+abbrev pub AskUnique : Type 0
+AskUnique = (n k u a v : ℕ) (P : Policy) (r s : Asked) → Answers n k u a v P r → Answers n k u a v P s → r ≡ s
