@@ -22,7 +22,7 @@ use Rattle.ask.specs.declared.Asked.{Asked}
 use Rattle.ask.specs.declared.Asked.the-variants.{Grant, Deny, Refused}
 use Rattle.ask.specs.Ask.{lookRules, askRules, askTold, askedTold}
 use Rattle.ask.proofs.Exits.{told, looks}
-use Rattle.claims.specs.Ask.{Agree, Serves, AskGrants, AskServes, AskAlone, AskUnique}
+use Rattle.claims.specs.Ask.{Serves, AskGrants, AskServes, AskAlone, AskUnique}
 
 one-nought : values (1 ∷ []) ≡ values (0 ∷ []) → ⊥
 one-nought e = let z : _≡_ {A = ℕ} 0 1 = cc in omega arith

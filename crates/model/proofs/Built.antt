@@ -1,17 +1,16 @@
 -- The built policy. Its table gives back every cell, since a cell is the same for alike senders and for alike receivers; so it
 -- enforces its matrix (Theorem 2.14). What an enforcing policy puts together is alike (Lemma A.6), and so shares a built domain:
 -- that is demand 3, and with the pigeonhole principle no enforcing policy has fewer domains with a member. Assumes nothing.
-use mathlib.Core.Path.{_≡_, sym, ap, _∙_, subst}
+use mathlib.Core.Path.{_≡_, sym, _∙_, subst}
 use mathlib.Core.Logic.{_↔_}
 use mathlib.Core.Bool.{Bool}
 use Prim.Native.Nat.{ℕ, _*_, _/_, _%_, _≤_, _<_}
 use native.Mathlib.Nat.{le-trans}
 use native.Mathlib.Omega.{arith}
 use lib.Dec.{eqb}
-use lib.ListN.{length}
 use Rattle.model.specs.Below.{any}
 use Rattle.model.specs.Matrix.{Cells, cellAt, cell, Full}
-use Rattle.model.specs.Alike.{Alike, SameRows, alike?, flip}
+use Rattle.model.specs.Alike.{Alike, SameRows, alike?}
 use Rattle.model.specs.Classes.{smallest, classes, classOf, memberOf}
 use Rattle.model.specs.Policy.{Policy, domainOf, Valid, answer, Enforces, labels, used, Together}
 use Rattle.model.specs.Built.{Edge, tableOf, built}

@@ -9,7 +9,7 @@ use native.Mathlib.Decide.{ℕ-discrete}
 use borrow.Author.Tests.{eq-eqb, ne-eqb}
 use lib.Dec.{eqb}
 use Rattle.model.specs.Matrix.{Cells, Full, Fills}
-use Rattle.model.specs.Policy.{Policy, answer, Agrees, Enforces}
+use Rattle.model.specs.Policy.{Policy, answer, Enforces}
 
 -- 1 where the answer is a grant, and 0 elsewhere
 granted : Cells → Cells

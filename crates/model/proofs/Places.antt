@@ -6,7 +6,6 @@ use Prim.Native.Nat.{ℕ, zero, _+_, _*_, _/_, _%_, _≤_, _<_}
 use native.Mathlib.Nat.{mul-le-mul, div-add-mod', mod-lt, div-lt-iff-lt-mul, mul-zero, eq-zero-or-pos}
 use native.Mathlib.Omega.{arith}
 use lib.Arith.{digits-lt, digits-div, digits-mod}
-use Rattle.model.specs.Below.{tab}
 use Rattle.model.specs.Matrix.{Cells, cellAt, cell}
 use Rattle.model.specs.Built.{tableOf}
 use Rattle.model.proofs.Below.{getD-tab}

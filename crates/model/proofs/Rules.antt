@@ -15,7 +15,7 @@ use Rattle.model.specs.Refusal.{Rule, checked, refusal, cellRefusal}
 use Rattle.model.specs.Rules.{lowest, lowestRule, lengthRule, listRules, sizeRules, matrixRules, fullRules, assignmentRules}
 use Rattle.model.specs.Rules.{tableRules, requestRules, pairRules, roomRules}
 use Rattle.model.proofs.Tests.{same-test, eqb-of, decide, true-of, false-of}
-use Rattle.model.proofs.Below.{First, first-of, first-none, first-same, any-at, any-of}
+use Rattle.model.proofs.Below.{first-of, first-none, first-same, any-at, any-of}
 use Rattle.model.proofs.Answers.{checked-fine, checked-applies, checked-passes}
 
 -- ---- sizes

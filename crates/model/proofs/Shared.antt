@@ -1,7 +1,7 @@
 -- What can share a label: answers that go by labels, f for the sender and g for the receiver, give senders of one label one row.
 -- The receivers' law is the senders' over the exchanged matrix. Assumes nothing.
 use mathlib.Core.Path.{_≡_, sym, _∙_}
-use Prim.Native.Nat.{ℕ, _≤_, _<_}
+use Prim.Native.Nat.{ℕ, _<_}
 use native.Mathlib.Decide.{ℕ-discrete}
 use native.Mathlib.Omega.{arith}
 use Rattle.model.specs.Matrix.{Cells, Full}

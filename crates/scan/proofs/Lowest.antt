@@ -12,8 +12,8 @@ use lib.ListN.{length, getD, take, drop, length-drop}
 use lib.Seq.{length-take-le, getD-take, getD-drop}
 use Rattle.model.specs.Below.{any, first}
 use Rattle.model.specs.Rules.{lowest}
-use Rattle.model.proofs.Tests.{true-of, false-of}
-use Rattle.model.proofs.Below.{First, first-is, first-of, first-none, first-before, first-le, any-at, any-of}
+use Rattle.model.proofs.Tests.{false-of}
+use Rattle.model.proofs.Below.{first-is, first-of, first-none, first-before, first-le, any-at, any-of}
 
 abbrev pub at : (ℕ → Bool) → List ℕ → ℕ → Bool
 at p s i = p (getD s i 0)
@@ -50,9 +50,12 @@ module _ (p : ℕ → Bool) (s : List ℕ) (i e : ℕ) (h : i ≤ e) (l : e ≤ 
   block : List ℕ
   block = take (e - i) (drop i s)
 
+  pub block-length : length (take (e - i) (drop i s)) ≡ e - i
+  block-length = length-take-le (e - i) (drop i s) (rw length-drop (omega arith))
+
   block-long : length block ≡ e - i
   unfolding block
-  block-long = length-take-le (e - i) (drop i s) (rw length-drop (omega arith))
+  block-long = block-length
 
   block-at : (j : ℕ) → j < e - i → getD block j 0 ≡ getD s (i + j) 0
   unfolding block

@@ -3,7 +3,6 @@
 use model::Checked;
 use model::Refusal;
 ghost use mathlib.Core.Path.{_≡_};
-ghost use mathlib.Core.List.{[], _∷_};
 ghost use Prim.Native.Nat.{_*_, _≤_, _<_};
 ghost use lib.Dec.{leb};
 ghost use lib.ListN.{length, getD};
@@ -11,7 +10,7 @@ ghost use Rattle.model.specs.declared.Checked.the-variants.{Fine};
 ghost use Rattle.model.specs.Below.{any};
 ghost use Rattle.model.specs.Matrix.{cellAt};
 ghost use Rattle.model.specs.Refusal.{refusal, cellRefusal, checked};
-ghost use Rattle.model.specs.Rules.{lowest, sizeRules, matrixRules, fullRules, assignmentRules, tableRules, requestRules, pairRules, roomRules};
+ghost use Rattle.model.specs.Rules.{lowest, listRules, sizeRules, matrixRules, fullRules, assignmentRules, tableRules, requestRules, pairRules, roomRules};
 
 // A refusal that names no cell.
 pub fn refuse(number: usize, place: usize) -> Refusal
@@ -117,19 +116,35 @@ pub fn sizes(n: usize, k: usize, d: usize) -> Checked
     Checked::Fine
 }
 
+// Refusal `short` for a list that is not x·k·y cells long, and `stray` for its lowest cell that is `from` or more.
+fn cells_fit(
+    short: usize,
+    stray: usize,
+    x: usize,
+    k: usize,
+    y: usize,
+    from: usize,
+    s: &[u8],
+) -> Checked
+    requires { ⌜ (x ≤ 64) × (k ≤ 8) × (y ≤ 64) ⌝ }
+    ensures { λ r. ⌜ r ≡ checked (listRules short (x * k * y) (leb from) (now (s .entry)) (cellRefusal stray k y)) ⌝ }
+{
+    if s.len() != x * k * y {
+        return Checked::Bad(refuse(short, 0));
+    }
+    let i = lowest_from(s, from);
+    if i < s.len() {
+        return Checked::Bad(refuse_cell(stray, k, y, i));
+    }
+    Checked::Fine
+}
+
 // 2: the matrix's length; 3: a cell above 2.
 pub fn matrix_fits(n: usize, k: usize, m: &[u8]) -> Checked
     requires { ⌜ (n ≤ 64) × (k ≤ 8) ⌝ }
     ensures { λ r. ⌜ r ≡ checked (matrixRules n k (now (m .entry))) ⌝ }
 {
-    if m.len() != n * k * n {
-        return Checked::Bad(refuse(2, 0));
-    }
-    let i = lowest_from(m, 3);
-    if i < m.len() {
-        return Checked::Bad(refuse_cell(3, k, n, i));
-    }
-    Checked::Fine
+    cells_fit(2, 3, n, k, n, 3, m)
 }
 
 // 4: an unlogged cell, of a matrix that has passed 2 and 3.
@@ -163,14 +178,7 @@ pub fn table_fits(k: usize, d: usize, t: &[u8]) -> Checked
     requires { ⌜ (k ≤ 8) × (d ≤ 64) ⌝ }
     ensures { λ r. ⌜ r ≡ checked (tableRules k d (now (t .entry))) ⌝ }
 {
-    if t.len() != d * k * d {
-        return Checked::Bad(refuse(7, 0));
-    }
-    let i = lowest_from(t, 2);
-    if i < t.len() {
-        return Checked::Bad(refuse_cell(8, k, d, i));
-    }
-    Checked::Fine
+    cells_fit(7, 8, d, k, d, 2, t)
 }
 
 // 9 for a request: sender, right, receiver.

@@ -1,26 +1,24 @@
 -- Every refusal of the ask has room in the word: its numbers are those of the table, and its places are small, since a domain or a
 -- cell is named only once the sizes and the request were in order. So the ask's word loses nothing. Assumes nothing.
-use mathlib.Core.Path.{_≡_, refl, sym, ap, _∙_}
+use mathlib.Core.Path.{_≡_, refl}
 use mathlib.Core.Bool.{Bool, true, false, cond}
-use mathlib.Core.List.{List, [], _∷_, _++_}
-use Prim.Native.Nat.{ℕ, _*_, _^_, _<_, _≤_}
+use mathlib.Core.List.{[], _∷_}
+use Prim.Native.Nat.{ℕ, _^_, _<_}
 use native.Mathlib.Omega.{arith}
 use borrow.Author.Tests.{leb-false}
-use lib.Dec.{eqb, leb}
-use lib.ListN.{length}
-use Rattle.model.specs.declared.Refusal.{Refusal}
+use lib.Dec.{eqb}
 use Rattle.model.specs.declared.Checked.{Checked}
 use Rattle.model.specs.declared.Checked.the-variants.{Fine, Bad}
 use Rattle.model.specs.Matrix.{cellAt}
 use Rattle.model.specs.Policy.{Policy, domainOf, answer}
 use Rattle.model.specs.Refusal.{refusal, cellRefusal, checked, tell}
-use Rattle.model.specs.Rules.{lengthRule, sizeRules, requestRules}
+use Rattle.model.specs.Rules.{sizeRules, requestRules}
 use Rattle.model.proofs.Answers.{Gives, gives-bad, gives-group}
 use Rattle.model.proofs.Places.{steps}
 use Rattle.model.proofs.Rules.{Sized, sizes-fine, request-fine}
 use Rattle.ask.specs.Ask.{lookRules, askRules, granted, askTold}
 use Rattle.soroluzko.specs.Word.{Room, AskKept}
-use Rattle.soroluzko.proofs.Word.{Fit, none, more, Held, word-kept}
+use Rattle.soroluzko.proofs.Word.{none, more, Held, word-kept}
 
 room : (number place : ℕ) → 0 < number → number < 256 → place < 2 ^ 24 → Room (refusal number place)
 unfolding refusal

@@ -2,7 +2,7 @@
 -- what `look` tells is what is left of the rules. Assumes nothing.
 use mathlib.Core.Path.{_≡_, sym, ap, _∙_}
 use native.Mathlib.Omega.{arith}
-use Rattle.model.specs.declared.Checked.the-variants.{Fine, Bad}
+use Rattle.model.specs.declared.Checked.the-variants.{Fine}
 use Rattle.model.specs.Policy.{Policy, policy}
 use Rattle.model.specs.Refusal.{checked, refused}
 use Rattle.model.specs.Rules.{sizeRules, requestRules}

@@ -6,10 +6,10 @@ use mathlib.Core.Bool.{false}
 use Prim.Native.Nat.{ℕ, _+_, _-_, _≤_}
 use native.Mathlib.Omega.{arith}
 use lib.Dec.{leb}
-use lib.ListN.{length}
+use lib.ListN.{length, take, drop}
 use Rattle.model.specs.Below.{any}
 use Rattle.model.specs.Rules.{lowest}
-use Rattle.scan.proofs.Lowest.{at, passed-none, block-none, block-some, lowest-end, lowest-le}
+use Rattle.scan.proofs.Lowest.{at, passed-none, block-length, block-none, block-some, lowest-end, lowest-le}
 use Rattle.scan.proofs.lowest_by_blocks.Statement.{statement}
 use Rattle.scan.proofs.lowest_by_blocks.Tie as tie
 
@@ -65,7 +65,10 @@ lowest-in-requires c κs = search needs
 add-result : tie.Need-add-result Inv-loop μ-loop
 add-result c =
     let args = c .before .before .before .before .before .before .before .before .before .args in
-    omega (arith, found c, lowest-le (leb (args .b)) (args .s .now))
+    let i = c .before .before .before .before .before .before .before .loop .i in
+    let e = c .before .before .before .before .before .block-end .result in
+    let size = block-length (leb (args .b)) (args .s .now) i e (omega arith) (omega arith) in
+    omega (arith, lowest-le (leb (args .b)) (take (e - i) (drop i (args .s .now))), c .lowest-in .ensures)
 
 returns : tie.Need-returns Inv-loop μ-loop
 returns c = found c

@@ -6,7 +6,7 @@ use Prim.Native.Nat.{_-_, _≤_}
 use native.Mathlib.Omega.{arith}
 use borrow.Author.Tests.{le-leb, lt-leb}
 use lib.Dec.{leb}
-use lib.ListN.{length}
+use lib.ListN.{length, getD}
 use Rattle.model.specs.Below.{any}
 use Rattle.scan.proofs.Lowest.{at, passed-none, passed-next, lowest-here, lowest-end}
 use Rattle.scan.proofs.lowest_in.Statement.{statement}
@@ -25,7 +25,11 @@ shared-slice-read-if1 : tie.Need-shared-slice-read-if1 Inv-loop μ-loop
 shared-slice-read-if1 c = search needs
 
 returns : tie.Need-returns Inv-loop μ-loop
-returns c = lowest-here _ _ _ (omega arith) (c .before .before .before .loop .inv .1) (le-leb _ _ (c .if1 .taken))
+returns c =
+    let a = c .before .before .before .before .args in
+    let loop = c .before .before .before .loop in
+    let here = le-leb (a .b) (getD (a .s .now) (loop .i) 0) (omega arith) in
+    lowest-here (leb (a .b)) (a .s .now) (loop .i) (omega arith) (loop .inv .1) here
 
 add-i : tie.Need-add-i Inv-loop μ-loop
 add-i c = search needs
@@ -34,7 +38,11 @@ loop-less : tie.Need-loop-less Inv-loop μ-loop
 loop-less c = search needs
 
 loop-again : tie.Need-loop-again Inv-loop μ-loop
-loop-again c = (omega arith, sym (passed-next _ _ _ (sym (c .before .before .before .loop .inv .1))) ∙ lt-leb _ _ (c .if1 .left))
+loop-again c =
+    let a = c .before .before .before .before .args in
+    let loop = c .before .before .before .loop in
+    let passed = lt-leb (a .b) (getD (a .s .now) (loop .i) 0) (omega arith) in
+    (omega arith, sym (passed-next (at (leb (a .b)) (a .s .now)) (loop .i) _ (sym (loop .inv .1))) ∙ passed)
 
 returns-2 : tie.Need-returns-2 Inv-loop μ-loop
 returns-2 c = lowest-end _ _ _ (omega arith) (c .before .loop .inv .1)
