@@ -1,7 +1,7 @@
 /*
  * Soroluzko: domain policies for a message broker. The calls of libsoroluzko.a, for C.
  *
- * Entities (0 to 64) are numbered from 0, rights (1 to 8) from 0, domains (0 to 64) from 0.
+ * There are 0 to 64 entities, 1 to 8 rights and 0 to 64 domains, each numbered from 0.
  * A policy for n entities and k rights has d domains; an assignment of n bytes, the domain of each entity; and a table of d*k*d
  * bytes, each 0 or 1, with the cell of (p, a, q) at (p*k + a)*d + q. It grants (u, a, v), "u may use right a towards v", if the
  * cell of (domain of u, a, domain of v) is 1.
@@ -25,6 +25,10 @@
 #include <stddef.h>
 #include <stdint.h>
 
+#if SIZE_MAX != 0xffffffffffffffff
+#error "libsoroluzko is for machines whose size_t has 64 bits"
+#endif
+
 #ifdef __cplusplus
 extern "C" {
 #endif
@@ -42,7 +46,7 @@ static inline size_t soroluzko_place(uint64_t answer) { return (size_t)(answer >
 /* Whether an ask was granted: not refused, and the policy grants. */
 static inline bool soroluzko_granted(uint64_t answer) { return (answer & 0x1ff) == 0x100; }
 
-/* A policy and a request with their numbers by name, so that no two can be exchanged by mistake. */
+/* A policy and a request. Name the members where you fill them in (.n = 3, .k = 1, ..), so that no two numbers are exchanged. */
 
 struct soroluzko_policy {
     size_t n; /* entities */
@@ -77,6 +81,7 @@ struct soroluzko_request {
 uint64_t soroluzko_ask(size_t n, size_t k, size_t d, size_t u, size_t a, size_t v,
                        const uint8_t *assignment, size_t assignment_length, const uint8_t *table, size_t table_length);
 
+/* The same, of a policy and a request. */
 static inline uint64_t soroluzko_policy_ask(const struct soroluzko_policy *p, struct soroluzko_request r) {
     return soroluzko_ask(p->n, p->k, p->d, r.u, r.a, r.v, p->assignment, p->assignment_length, p->table, p->table_length);
 }

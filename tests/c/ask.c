@@ -104,6 +104,8 @@ static void refusals(void) {
     /* domain numbers, with an odd place that must not read as a grant; and the one cell */
     p = policy(3, 1, 2, "\2\377\1", 3, "\0\1\0\3", 4);
     refuses("6 for u", &p, 0, 0, 1, 6, 0);
+    refuses("9 for a before 6 for u", &p, 0, 1, 1, 9, 1);
+    refuses("9 for v before 6 for u", &p, 0, 0, 3, 9, 2);
     refuses("6 for u, at an odd place", &p, 1, 0, 0, 6, 1);
     refuses("6 for v, and no lower one", &p, 2, 0, 1, 6, 1);
     refuses("6 for v", &p, 2, 0, 0, 6, 0);

@@ -13,7 +13,7 @@ use Rattle.model.specs.Matrix.{cellAt, cell}
 use Rattle.model.specs.Policy.{Policy, domainOf, answer}
 use Rattle.model.specs.Refusal.{Rule, rule, refusal, cellRefusal, checked, Told, values, refused, tell}
 use Rattle.model.specs.Rules.{lengthRule, sizeRules, requestRules}
-use Rattle.model.proofs.Answers.{group-fine, group-bad}
+use Rattle.model.proofs.Groups.{group-fine, group-bad}
 use Rattle.model.proofs.Rules.{length-pass, length-bad}
 use Rattle.ask.specs.Ask.{lookRules, askRules, granted, askTold}
 

@@ -1,4 +1,5 @@
 -- What the ask answers (01, "The calls" and "Numbers of refusal"). Assumes nothing.
+use mathlib.Core.Path.{_≡_}
 use mathlib.Core.Bool.{cond}
 use mathlib.Core.List.{List, [], _∷_, _++_}
 use Prim.Native.Nat.{ℕ, _*_}
@@ -31,6 +32,7 @@ askRules n k u a v P =
 abbrev pub granted : ℕ → Policy → ℕ → ℕ → ℕ → List ℕ
 granted k P u a v = cond (eqb (answer k P u a v) 1) 1 0 ∷ []
 
+-- what is told: the first of the rules that applies, or the grant or denial
 unfoldable pub askTold : ℕ → ℕ → ℕ → ℕ → ℕ → Policy → Told
 askTold n k u a v P = tell (checked (askRules n k u a v P)) (granted k P u a v)
 
@@ -39,3 +41,7 @@ abbrev pub askedTold : Asked → Told
 askedTold Grant = values (1 ∷ [])
 askedTold Deny = values (0 ∷ [])
 askedTold (Refused r) = refused r
+
+-- the promise: r is the answer to (u, a, v) over P
+abbrev pub Answers : ℕ → ℕ → ℕ → ℕ → ℕ → Policy → Asked → Type 0
+Answers n k u a v P r = askedTold r ≡ askTold n k u a v P

@@ -6,7 +6,7 @@ ghost use Prim.Native.Nat.{_*_, _≤_, _<_};
 ghost use lib.ListN.{length};
 ghost use Rattle.model.specs.Policy.{policy};
 ghost use Rattle.model.specs.Refusal.{checked, tell};
-ghost use Rattle.ask.specs.Ask.{lookRules, granted, askTold, askedTold};
+ghost use Rattle.ask.specs.Ask.{lookRules, granted, askedTold, Answers};
 
 pub enum Asked {
     Grant,
@@ -26,7 +26,7 @@ pub fn ask(
     assignment: &[u8],
     table: &[u8],
 ) -> Asked
-    ensures { λ r. ⌜ askedTold r ≡ askTold n k u a v (policy d (now (assignment .entry)) (now (table .entry))) ⌝ }
+    ensures { λ r. ⌜ Answers n k u a v (policy d (now (assignment .entry)) (now (table .entry))) r ⌝ }
 {
     let sized = scan::sizes(n, k, d);
     if let Checked::Bad(r) = sized {

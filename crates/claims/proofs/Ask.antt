@@ -1,5 +1,5 @@
 -- The claims on the ask. What it tells has the policy's cell in it where no rule applies, and a refusal otherwise; what is told
--- determines the answer; and the rules speak of nothing that `Agree` leaves out. Assumes nothing.
+-- determines the answer; and the rules speak of nothing that `Coincide` leaves out. Assumes nothing.
 use mathlib.Core.Path.{_≡_, refl, sym, ap, _∙_}
 use mathlib.Core.Bool.{cond}
 use mathlib.Core.List.{[], _∷_, _++_}
@@ -15,7 +15,7 @@ use Rattle.model.specs.Matrix.{cellAt}
 use Rattle.model.specs.Policy.{Policy, domainOf, answer, Grants}
 use Rattle.model.specs.Refusal.{rule, refusal, cellRefusal, checked, Told, values, refused, tell}
 use Rattle.model.specs.Rules.{lengthRule, sizeRules, requestRules}
-use Rattle.model.proofs.Answers.{values-refused}
+use Rattle.model.proofs.Groups.{values-refused}
 use Rattle.model.proofs.Built.{answer-low}
 use Rattle.model.proofs.Rules.{sizes-pass, request-pass}
 use Rattle.ask.specs.declared.Asked.{Asked}

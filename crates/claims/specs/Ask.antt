@@ -1,4 +1,4 @@
--- What is claimed of the ask, over any answer r that meets its promise. Assumes nothing.
+-- What is claimed of the ask, over any answer r that meets its promise (01, "The calls"). Assumes nothing.
 use mathlib.Core.Path.{_≡_}
 use mathlib.Core.Logic.{_↔_}
 use Prim.Native.Nat.{ℕ, _≤_, _<_}
@@ -8,20 +8,16 @@ use Rattle.model.specs.Policy.{Policy, domainOf, Valid, answer, Grants}
 use Rattle.model.specs.Refusal.{checked}
 use Rattle.ask.specs.declared.Asked.{Asked}
 use Rattle.ask.specs.declared.Asked.the-variants.{Grant, Deny}
-use Rattle.ask.specs.Ask.{askRules, askTold, askedTold}
+use Rattle.ask.specs.Ask.{askRules, Answers}
 
 -- all that the answer to (u, a, v) depends on, beside n, k, u, a and v
-pub record Agree (k u a v : ℕ) (P Q : Policy) : Type 0 where
+pub record Coincide (k u a v : ℕ) (P Q : Policy) : Type 0 where
   pub domains : P .domains ≡ Q .domains
   pub entities : length (P .assignment) ≡ length (Q .assignment)
   pub size : length (P .table) ≡ length (Q .table)
   pub sender : domainOf P u ≡ domainOf Q u
   pub receiver : domainOf P v ≡ domainOf Q v
   pub asked : answer k P u a v ≡ answer k Q u a v
-
--- r is what the ask may answer: it meets the promise
-abbrev pub Answers : ℕ → ℕ → ℕ → ℕ → ℕ → Policy → Asked → Type 0
-Answers n k u a v P r = askedTold r ≡ askTold n k u a v P
 
 -- no refusal applies
 abbrev pub Serves : ℕ → ℕ → ℕ → ℕ → ℕ → Policy → Type 0
@@ -38,7 +34,7 @@ AskServes = (n k u a v : ℕ) (P : Policy) → n ≤ 64 → 0 < k → k ≤ 8 �
 
 -- two calls that agree on these answer alike, whatever stands in the other bytes
 abbrev pub AskAlone : Type 0
-AskAlone = (n k u a v : ℕ) (P Q : Policy) → Agree k u a v P Q → (r s : Asked) → Answers n k u a v P r → Answers n k u a v Q s → r ≡ s
+AskAlone = (n k u a v : ℕ) (P Q : Policy) → Coincide k u a v P Q → (r s : Asked) → Answers n k u a v P r → Answers n k u a v Q s → r ≡ s
 
 -- two answers that meet the promise are equal
 abbrev pub AskUnique : Type 0

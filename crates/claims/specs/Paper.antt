@@ -5,16 +5,11 @@ use Prim.Native.Nat.{ℕ, _≤_, _<_}
 use lib.Dec.{T}
 use Rattle.model.specs.Matrix.{Cells, cell, Full, Fills}
 use Rattle.model.specs.Alike.{Alike, SameRows, flip, alike?}
-use Rattle.model.specs.Classes.{smallest}
-use Rattle.model.specs.Policy.{Policy, domainOf, Valid, Enforces, used, Together}
+use Rattle.model.specs.Classes.{Equivalence, smallest}
+use Rattle.model.specs.Policy.{Policy, domainOf, Valid, answer, Enforces, used, Together}
 use Rattle.model.specs.Built.{Edge, built}
 
 -- Proposition 2.12: alike is an equivalence
-pub record Equivalence (n : ℕ) (R : ℕ → ℕ → Type 0) : Type 0 where
-  pub itself : (u : ℕ) → u < n → R u u
-  pub back : (u v : ℕ) → u < n → v < n → R u v → R v u
-  pub on : (u v w : ℕ) → u < n → v < n → w < n → R u v → R v w → R u w
-
 abbrev pub AlikeEquivalence : Type 0
 AlikeEquivalence = (n k : ℕ) (M : Cells) → Equivalence n (Alike n k M)
 
@@ -34,7 +29,12 @@ Share n k M u v = domainOf (built n k M) u ≡ domainOf (built n k M) v
 abbrev pub SharedAlike : Type 0
 SharedAlike = (n k : ℕ) (M : Cells) (u v : ℕ) → u < n → v < n → Share n k M u v ↔ Alike n k M u v
 
--- and a table cell, which is the smallest members', is a grant exactly where some pair of members has one
+-- a table cell is the matrix cell from smallest member to smallest member
+abbrev pub TableCells : Type 0
+TableCells = (n k : ℕ) (M : Cells) (u a v : ℕ) → u < n → a < k → v < n
+    → answer k (built n k M) u a v ≡ M (smallest n (alike? n k M) u) a (smallest n (alike? n k M) v)
+
+-- Definition 2.13: it is a grant exactly where some pair of members has one
 abbrev pub TableEdges : Type 0
 TableEdges = (n k : ℕ) (M : Cells) (p a q : ℕ) → p < built n k M .domains → a < k → q < built n k M .domains
     → (cell k (built n k M .domains) (built n k M .table) p a q ≡ 1) ↔ Edge n M (built n k M) p a q
@@ -44,7 +44,11 @@ abbrev pub NumberedInOrder : Type 0
 NumberedInOrder = (n k : ℕ) (M : Cells) (u v : ℕ) → u < n → v < n → smallest n (alike? n k M) u < smallest n (alike? n k M) v
     → domainOf (built n k M) u < domainOf (built n k M) v
 
--- Theorem 2.14: the built policy is a policy, and enforces its matrix
+-- every built domain has a member, so there are no more domains than entities
+abbrev pub BuiltUsed : Type 0
+BuiltUsed = (n k : ℕ) (M : Cells) → (used n (built n k M) ≡ built n k M .domains) × (built n k M .domains ≤ n)
+
+-- Theorem 2.14, first half: the built policy is a policy, and enforces its matrix
 abbrev pub BuiltEnforces : Type 0
 BuiltEnforces = (n k : ℕ) (M : Cells) → Full n k M → Valid n k (built n k M) × Enforces n k M (built n k M)
 
@@ -53,16 +57,15 @@ abbrev pub TogetherAlike : Type 0
 TogetherAlike = (n k : ℕ) (M : Cells) → Full n k M → (P : Policy) → Enforces n k M P
     → (u v : ℕ) → u < n → v < n → domainOf P u ≡ domainOf P v → Alike n k M u v
 
--- Demand 3: two entities share a built domain exactly when some enforcing policy puts them together. The bound d on that policy's
--- domains may be 64, document 01's limit, or any other number from n on
+-- Demand 3: two entities share a built domain exactly when some enforcing policy puts them together. The limit on that policy's
+-- domains may be 64, as in document 01, or any other number from n on
 abbrev pub Demand3 : Type 0
-Demand3 = (n k : ℕ) (M : Cells) → Full n k M → (d : ℕ) → n ≤ d
-    → (u v : ℕ) → u < n → v < n → Share n k M u v ↔ Together d n k M u v
+Demand3 = (n k : ℕ) (M : Cells) → Full n k M → (limit : ℕ) → n ≤ limit
+    → (u v : ℕ) → u < n → v < n → Share n k M u v ↔ Together limit n k M u v
 
--- so every built domain has a member, and no enforcing policy has fewer domains with a member
+-- so no enforcing policy has fewer domains with a member (Theorem 2.14, second half, for domains)
 abbrev pub FewestDomains : Type 0
-FewestDomains = (n k : ℕ) (M : Cells) → Full n k M → (P : Policy) → Valid n k P → Enforces n k M P
-    → (used n (built n k M) ≡ built n k M .domains) × (built n k M .domains ≤ used n P)
+FewestDomains = (n k : ℕ) (M : Cells) → Full n k M → (P : Policy) → Valid n k P → Enforces n k M P → built n k M .domains ≤ used n P
 
 -- a policy enforces a matrix with gaps exactly if it enforces some filling of it
 abbrev pub EnforcesFilling : Type 0

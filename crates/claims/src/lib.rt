@@ -1,1 +1,1 @@
-// What is claimed over the rooms below, in specs/, with the proofs in proofs/; this room has no code.
+// What is claimed of the definitions and of the calls, in specs/, with the proofs in proofs/; this crate has no code.

@@ -8,9 +8,10 @@ use lib.Dec.{T, eqb, eqb→eq}
 use Rattle.model.specs.Below.{all}
 use Rattle.model.specs.Matrix.{Cells}
 use Rattle.model.specs.Alike.{Alike, SameRows, rows?, flip, alike?}
+use Rattle.model.specs.Classes.{Equivalence}
 use Rattle.model.proofs.Tests.{and-left, and-right, and-both, eqb-of}
 use Rattle.model.proofs.Below.{all-at, all-of}
-use Rattle.model.proofs.Classes.{Equivalence}
+use Rattle.model.proofs.Classes.{Tests}
 
 module _ (n k : ℕ) (M : Cells) where
   -- ---- equal rows
@@ -73,21 +74,18 @@ module _ (n k : ℕ) (M : Cells) where
     λ s. alike-of u v h l (s .0) (s .1),
   )
 
-  -- ---- Proposition 2.12
-
-  pub alike-itself : (u : ℕ) → u < n → Alike n k M u u
-  alike-itself u h = alike-of u u h h (rows-itself n k M u) (rows-itself n k (flip M) u)
-
-  pub alike-back : (u v : ℕ) → u < n → v < n → Alike n k M u v → Alike n k M v u
-  alike-back u v h l e =
-      let s = alike-iff u v h l .0 e in
-      alike-of v u l h (rows-back n k M u v (s .0)) (rows-back n k (flip M) u v (s .1))
-
-  pub alike-on : (u v w : ℕ) → u < n → v < n → w < n → Alike n k M u v → Alike n k M v w → Alike n k M u w
-  alike-on u v w h l m e f =
-      let s = alike-iff u v h l .0 e in
-      let t = alike-iff v w l m .0 f in
-      alike-of u w h m (rows-on n k M u v w (s .0) (t .0)) (rows-on n k (flip M) u v w (s .1) (t .1))
+  -- Proposition 2.12
+  pub alike-equivalence : Equivalence n (Alike n k M)
+  alike-equivalence = record {
+    reflexive = λ u h. alike-of u u h h (rows-itself n k M u) (rows-itself n k (flip M) u);
+    symmetric = λ u v h l e.
+        let s = alike-iff u v h l .0 e in
+        alike-of v u l h (rows-back n k M u v (s .0)) (rows-back n k (flip M) u v (s .1));
+    transitive = λ u v w h l m e f.
+        let s = alike-iff u v h l .0 e in
+        let t = alike-iff v w l m .0 f in
+        alike-of u w h m (rows-on n k M u v w (s .0) (t .0)) (rows-on n k (flip M) u v w (s .1) (t .1));
+  }
 
   -- ---- the test
 
@@ -103,9 +101,12 @@ module _ (n k : ℕ) (M : Cells) where
       let s = alike-iff u v h l .0 e in
       and-both (rows? n k M u v) (rows? n k (flip M) u v) (rows-complete n k M u v (s .0)) (rows-complete n k (flip M) u v (s .1))
 
-  pub alike-equivalence : Equivalence n (alike? n k M)
-  alike-equivalence = record {
-    itself = λ u h. alike-complete u u h h (alike-itself u h);
-    back = λ u v h l t. alike-complete v u l h (alike-back u v h l (alike-sound u v h l t));
-    on = λ u v w h l m s t. alike-complete u w h m (alike-on u v w h l m (alike-sound u v h l s) (alike-sound v w l m t));
+  pub alike-tests : Tests n (alike? n k M)
+  alike-tests = record {
+    reflexive = λ u h. alike-complete u u h h (A .reflexive u h);
+    symmetric = λ u v h l t. alike-complete v u l h (A .symmetric u v h l (alike-sound u v h l t));
+    transitive = λ u v w h l m s t. alike-complete u w h m (A .transitive u v w h l m (alike-sound u v h l s) (alike-sound v w l m t));
   }
+    where
+      A : Equivalence n (Alike n k M)
+      A = alike-equivalence

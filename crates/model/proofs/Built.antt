@@ -1,5 +1,5 @@
 -- The built policy. Its table gives back every cell, since a cell is the same for alike senders and for alike receivers; so it
--- enforces its matrix (Theorem 2.14). What an enforcing policy puts together is alike (Lemma A.6), and so shares a built domain:
+-- enforces its matrix (Theorem 2.14 (a)). What an enforcing policy puts together is alike (Lemma A.6), and so shares a built domain:
 -- that is demand 3, and with the pigeonhole principle no enforcing policy has fewer domains with a member. Assumes nothing.
 use mathlib.Core.Path.{_≡_, sym, _∙_, subst}
 use mathlib.Core.Logic.{_↔_}
@@ -19,8 +19,8 @@ use Rattle.model.proofs.Below.{any-at, any-of, length-tab, getD-tab}
 use Rattle.model.proofs.Count.{count-same}
 use Rattle.model.proofs.Places.{cell-inside, place, table-at}
 use Rattle.model.proofs.Classes.{classes-le, class-same, class-apart, class-below, class-rises, class-hit, fewest, all-used}
-use Rattle.model.proofs.Classes.{member-in, member-below, member-low}
-use Rattle.model.proofs.Alike.{alike-iff, alike-sound, alike-complete, alike-equivalence}
+use Rattle.model.proofs.Classes.{smallest-below, smallest-in, member-is, member-low}
+use Rattle.model.proofs.Alike.{alike-iff, alike-sound, alike-complete, alike-tests}
 use Rattle.model.proofs.Shared.{shared-rows, shared-columns}
 
 -- a policy's answer is 0 or 1
@@ -36,7 +36,7 @@ module _ (n k : ℕ) (M : Cells) where
 
   pub built-below : (u : ℕ) → u < n → domainOf (built n k M) u < built n k M .domains
   unfolding built
-  built-below u h = rw (built-domain u h) (class-below n (alike? n k M) (alike-equivalence n k M) u h)
+  built-below u h = rw (built-domain u h) (class-below n (alike? n k M) (alike-tests n k M) u h)
 
   pub built-few : built n k M .domains ≤ n
   unfolding built
@@ -45,33 +45,42 @@ module _ (n k : ℕ) (M : Cells) where
   -- the domains are numbered in order of their smallest members
   pub built-rises : (u v : ℕ) → u < n → v < n → smallest n (alike? n k M) u < smallest n (alike? n k M) v
       → domainOf (built n k M) u < domainOf (built n k M) v
-  built-rises u v h l b = rw (built-domain u h, built-domain v l) (class-rises n (alike? n k M) (alike-equivalence n k M) u v h b)
+  built-rises u v h l b = rw (built-domain u h, built-domain v l) (class-rises n (alike? n k M) (alike-tests n k M) u v h b)
 
   -- entities share a built domain exactly where they are alike
   pub built-alike : (u v : ℕ) → u < n → v < n → (domainOf (built n k M) u ≡ domainOf (built n k M) v) ↔ Alike n k M u v
   built-alike u v h l =
       let e = alike? n k M in
-      let E = alike-equivalence n k M in (
+      let E = alike-tests n k M in (
         λ s. alike-sound n k M u v h l (class-apart n e E u v h l (sym (built-domain u h) ∙ s ∙ built-domain v l)),
         λ w. built-domain u h ∙ class-same n e E u v h l (alike-complete n k M u v h l w) ∙ sym (built-domain v l),
       )
 
-  -- the table gives back every cell, of a matrix with gaps too
-  pub built-cell : (u a v : ℕ) → u < n → a < k → v < n → answer k (built n k M) u a v ≡ M u a v
-  unfolding answer built SameRows
-  built-cell u a v h b l =
+  -- a table cell is the smallest members'
+  pub built-smallest : (u a v : ℕ) → u < n → a < k → v < n
+      → answer k (built n k M) u a v ≡ M (smallest n (alike? n k M) u) a (smallest n (alike? n k M) v)
+  unfolding answer built
+  built-smallest u a v h b l =
       let e = alike? n k M in
-      let E = alike-equivalence n k M in
-      let x = memberOf n e (classOf n e u) in
-      let y = memberOf n e (classOf n e v) in
-      let hx = member-below n e E u h in
-      let ly = member-below n e E v l in
-      let su = alike-iff n k M u x h hx .0 (alike-sound n k M u x h hx (member-in n e E u h)) in
-      let sv = alike-iff n k M v y l ly .0 (alike-sound n k M v y l ly (member-in n e E v l)) in
+      let E = alike-tests n k M in
       let d = classes n e in
       rw (built-domain u h, built-domain v l)
       (table-at d d k M (memberOf n e) (memberOf n e) (classOf n e u) a (classOf n e v) (class-below n e E u h) b (class-below n e E v l)
-      ∙ sym (su .0 a v b l ∙ sv .1 a x b hx))
+      ∙ λ i. M (member-is n e E u h i) a (member-is n e E v l i))
+
+  -- and so it gives back every cell, of a matrix with gaps too
+  pub built-cell : (u a v : ℕ) → u < n → a < k → v < n → answer k (built n k M) u a v ≡ M u a v
+  unfolding SameRows
+  built-cell u a v h b l =
+      let e = alike? n k M in
+      let E = alike-tests n k M in
+      let x = smallest n e u in
+      let y = smallest n e v in
+      let hx = smallest-below n e E u h in
+      let ly = smallest-below n e E v l in
+      let su = alike-iff n k M u x h hx .0 (alike-sound n k M u x h hx (smallest-in n e E u h)) in
+      let sv = alike-iff n k M v y l ly .0 (alike-sound n k M v y l ly (smallest-in n e E v l)) in
+      built-smallest u a v h b l ∙ sym (su .0 a v b l ∙ sv .1 a x b hx)
 
   pub built-enforces : Enforces n k M (built n k M)
   built-enforces = record {
@@ -82,7 +91,7 @@ module _ (n k : ℕ) (M : Cells) where
   pub built-hit : (p : ℕ) → p < built n k M .domains → (u : ℕ) × (u < n) × (domainOf (built n k M) u ≡ p)
   unfolding built
   built-hit p h =
-      let r = class-hit n (alike? n k M) (alike-equivalence n k M) p h in
+      let r = class-hit n (alike? n k M) (alike-tests n k M) p h in
       (r .0, r .1, built-domain (r .0) (r .1) ∙ r .2)
 
   -- Definition 2.13: the smallest members' cell is 1 exactly where some pair of members has a 1
@@ -104,7 +113,7 @@ module _ (n k : ℕ) (M : Cells) where
   built-used = count-same (classes n e) (member f) (member (classOf n e)) (λ p h. same-test (member f p) (member (classOf n e) p)
       (λ t. let r = any-of n (λ u. eqb (f u) p) t in any-at n (λ u. eqb (classOf n e u) p) (r .0) (r .1) (rw (built-domain (r .0) (r .1)) at (r .2)))
       (λ t. let r = any-of n (λ u. eqb (classOf n e u) p) t in any-at n (λ u. eqb (f u) p) (r .0) (r .1) (rw (built-domain (r .0) (r .1)) (r .2))))
-      ∙ all-used n e (alike-equivalence n k M)
+      ∙ all-used n e (alike-tests n k M)
     where
       e : ℕ → ℕ → Bool
       e = alike? n k M
@@ -152,12 +161,12 @@ module _ (n k : ℕ) (M : Cells) where
         f i = M (r (i / d / k)) (i / d % k) (r (i % d))
 
         low : (p : ℕ) → p < d → r p < n
-        low = member-low n e (alike-equivalence n k M)
+        low = member-low n e (alike-tests n k M)
 
     -- demand 3
-    pub built-together : (d : ℕ) → n ≤ d → (u v : ℕ) → u < n → v < n
-        → (domainOf (built n k M) u ≡ domainOf (built n k M) v) ↔ Together d n k M u v
-    built-together d b u v h l = (
+    pub built-together : (limit : ℕ) → n ≤ limit → (u v : ℕ) → u < n → v < n
+        → (domainOf (built n k M) u ≡ domainOf (built n k M) v) ↔ Together limit n k M u v
+    built-together limit b u v h l = (
       λ s. record { policy = built n k M; few = le-trans built-few b; valid = built-valid; enforces = built-enforces; shared = s },
       λ t. built-alike u v h l .1 (together-alike (t .policy) full (t .enforces) u v h l (t .shared)),
     )
@@ -165,5 +174,5 @@ module _ (n k : ℕ) (M : Cells) where
     -- no enforcing policy has fewer domains with a member
     pub built-fewest : (P : Policy) → Valid n k P → Enforces n k M P → built n k M .domains ≤ used n P
     unfolding built used
-    built-fewest P ok E = fewest n (alike? n k M) (alike-equivalence n k M) (P .domains) (domainOf P) (ok .below)
+    built-fewest P ok E = fewest n (alike? n k M) (alike-tests n k M) (P .domains) (domainOf P) (ok .below)
         (λ u v h l s. alike-complete n k M u v h l (together-alike P full E u v h l s))

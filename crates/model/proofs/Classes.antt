@@ -7,25 +7,24 @@ use native.Mathlib.Nat.{le-antisymm}
 use native.Mathlib.Omega.{arith}
 use lib.Dec.{T, eqb, eqb→eq, eqb-refl}
 use Rattle.model.specs.Below.{any, count}
-use Rattle.model.specs.Classes.{smallest, isSmallest, classes, classOf, memberOf}
+use Rattle.model.specs.Classes.{Equivalence, smallest, isSmallest, classes, classOf, memberOf}
 use Rattle.model.specs.Policy.{labels}
 use Rattle.model.proofs.Tests.{eqb-of}
 use Rattle.model.proofs.Below.{First, first-of, first-is, any-at}
 use Rattle.model.proofs.Count.{count-le, count-past, count-apart, count-injects, count-hits, count-all}
 
-pub record Equivalence (n : ℕ) (e : ℕ → ℕ → Bool) : Type 0 where
-  pub itself : (u : ℕ) → u < n → T (e u u)
-  pub back : (u v : ℕ) → u < n → v < n → T (e u v) → T (e v u)
-  pub on : (u v w : ℕ) → u < n → v < n → w < n → T (e u v) → T (e v w) → T (e u w)
+-- e is the test of an equivalence
+abbrev pub Tests : ℕ → (ℕ → ℕ → Bool) → Type 0
+Tests n e = Equivalence n (λ u v. T (e u v))
 
 pub classes-le : (n : ℕ) (e : ℕ → ℕ → Bool) → classes n e ≤ n
 unfolding classes
 classes-le n e = count-le n (isSmallest n e)
 
-module _ (n : ℕ) (e : ℕ → ℕ → Bool) (E : Equivalence n e) where
+module _ (n : ℕ) (e : ℕ → ℕ → Bool) (E : Tests n e) where
   -- the smallest member is a member, and none is smaller
   found : (u : ℕ) → u < n → First n (e u) u
-  found u h = first-of n (e u) u h (E .itself u h)
+  found u h = first-of n (e u) u h (E .reflexive u h)
 
   pub smallest-below : (u : ℕ) → u < n → smallest n e u < n
   unfolding smallest
@@ -42,16 +41,20 @@ module _ (n : ℕ) (e : ℕ → ℕ → Bool) (E : Equivalence n e) where
   smallest-less : (u v : ℕ) → u < n → v < n → T (e u v) → smallest n e u ≤ smallest n e v
   smallest-less u v h l t =
       let s = smallest-below v l in
-      smallest-le u (smallest n e v) h s (E .on u v (smallest n e v) h l s t (smallest-in v l))
+      smallest-le u (smallest n e v) h s (E .transitive u v (smallest n e v) h l s t (smallest-in v l))
 
   pub smallest-same : (u v : ℕ) → u < n → v < n → T (e u v) → smallest n e u ≡ smallest n e v
-  smallest-same u v h l t = le-antisymm (smallest-less u v h l t) (smallest-less v u l h (E .back u v h l t))
+  smallest-same u v h l t = le-antisymm (smallest-less u v h l t) (smallest-less v u l h (E .symmetric u v h l t))
 
   pub smallest-is : (u : ℕ) → u < n → T (isSmallest n e (smallest n e u))
   unfolding isSmallest
   smallest-is u h =
       let s = smallest-below u h in
       eqb-of (smallest n e (smallest n e u)) (smallest n e u) (sym (smallest-same u (smallest n e u) h s (smallest-in u h)))
+
+  pub class-below : (u : ℕ) → u < n → classOf n e u < classes n e
+  unfolding classOf classes
+  class-below u h = count-past (isSmallest n e) (smallest n e u) n (smallest-is u h) (smallest-below u h)
 
   -- one number for each class
   pub class-same : (u v : ℕ) → u < n → v < n → T (e u v) → classOf n e u ≡ classOf n e v
@@ -64,11 +67,7 @@ module _ (n : ℕ) (e : ℕ → ℕ → Bool) (E : Equivalence n e) where
       let s = count-apart (isSmallest n e) (smallest n e u) (smallest n e v) (smallest-is u h) (smallest-is v l) q in
       let to : T (e u (smallest n e v)) = subst (λ x. T (e u x)) s (smallest-in u h) in
       let low = smallest-below v l in
-      E .on u (smallest n e v) v h low l to (E .back v (smallest n e v) l low (smallest-in v l))
-
-  pub class-below : (u : ℕ) → u < n → classOf n e u < classes n e
-  unfolding classOf classes
-  class-below u h = count-past (isSmallest n e) (smallest n e u) n (smallest-is u h) (smallest-below u h)
+      E .transitive u (smallest n e v) v h low l to (E .symmetric v (smallest n e v) l low (smallest-in v l))
 
   -- the numbers rise with the smallest members
   pub class-rises : (u v : ℕ) → u < n → smallest n e u < smallest n e v → classOf n e u < classOf n e v
@@ -91,13 +90,10 @@ module _ (n : ℕ) (e : ℕ → ℕ → Bool) (E : Equivalence n e) where
       (λ i l t.
       let m = lower i l in
       let q = smallest-same i u m h (class-apart i u m h (eqb→eq (classOf n e i) (classOf n e u) t)) in
-      omega (arith, smallest-le i i m m (E .itself i m)))
+      omega (arith, smallest-le i i m m (E .reflexive i m)))
     where
       lower : (i : ℕ) → i < smallest n e u → i < n
       lower i l = omega (arith, smallest-below u h)
-
-  pub member-in : (u : ℕ) → u < n → T (e u (memberOf n e (classOf n e u)))
-  member-in u h = rw (member-is u h) (smallest-in u h)
 
   pub member-below : (u : ℕ) → u < n → memberOf n e (classOf n e u) < n
   member-below u h = rw (member-is u h) (smallest-below u h)

@@ -12,27 +12,27 @@ use Rattle.model.specs.Matrix.{Cells, Full, Fills}
 use Rattle.model.specs.Policy.{Policy, answer, Enforces}
 
 -- 1 where the answer is a grant, and 0 elsewhere
-granted : Cells → Cells
-granted G u a v = cond (eqb (G u a v) 1) 1 0
+grantsOf : Cells → Cells
+grantsOf G u a v = cond (eqb (G u a v) 1) 1 0
 
 module _ (G : Cells) (u a v : ℕ) where
-  granted-one : G u a v ≡ 1 → granted G u a v ≡ 1
-  unfolding granted
+  granted-one : G u a v ≡ 1 → grantsOf G u a v ≡ 1
+  unfolding grantsOf
   granted-one e = rw (eq-eqb (G u a v) 1 e)
 
-  granted-nought : ¬ (G u a v ≡ 1) → granted G u a v ≡ 0
-  unfolding granted
+  granted-nought : ¬ (G u a v ≡ 1) → grantsOf G u a v ≡ 0
+  unfolding grantsOf
   granted-nought f = rw (ne-eqb (G u a v) 1 f)
 
-  granted-low : granted G u a v < 2
-  unfolding granted
+  granted-low : grantsOf G u a v < 2
+  unfolding grantsOf
   granted-low = go (eqb (G u a v) 1)
     where
       go : (b : Bool) → cond b 1 0 < 2
       go true = omega arith
       go false = omega arith
 
-  one-granted : granted G u a v ≡ 1 → G u a v ≡ 1
+  one-granted : grantsOf G u a v ≡ 1 → G u a v ≡ 1
   one-granted e = go (ℕ-discrete (G u a v) 1)
     where
       go : Dec (G u a v ≡ 1) → G u a v ≡ 1
@@ -43,7 +43,7 @@ pub enforces-filling : (n k : ℕ) (M : Cells) (P : Policy) → Enforces n k M P
 unfolding Full
 enforces-filling n k M P = (
   λ E. (
-    granted (answer k P),
+    grantsOf (answer k P),
     record {
       full = λ u a v h b l. granted-low (answer k P) u a v;
       grants = λ u a v h b l e. granted-one (answer k P) u a v (E .grants u a v h b l e);

@@ -7,5 +7,5 @@ pub mod Alike
 pub mod Shared
 pub mod Built
 pub mod Fillings
-pub mod Answers
+pub mod Groups
 pub mod Rules

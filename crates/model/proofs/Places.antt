@@ -15,12 +15,12 @@ pub cell-inside : {x k y u a v : ℕ} → u < x → a < k → v < y → cellAt k
 cell-inside h b l = digits-lt (digits-lt h b) l
 
 -- within the limits no product is large
-pub record Room (x k y : ℕ) : Type 0 where
+pub record Small (x k y : ℕ) : Type 0 where
   pub rows : x * k ≤ 512
   pub cells : x * k * y ≤ 32768
 
-pub room : {x k y : ℕ} → x ≤ 64 → k ≤ 8 → y ≤ 64 → Room x k y
-room h b l = record { rows = mul-le-mul h b; cells = mul-le-mul (mul-le-mul h b) l }
+pub small : {x k y : ℕ} → x ≤ 64 → k ≤ 8 → y ≤ 64 → Small x k y
+small h b l = record { rows = mul-le-mul h b; cells = mul-le-mul (mul-le-mul h b) l }
 
 pub record Steps (x k y u a v : ℕ) : Type 0 where
   pub sender : u * k ≤ 512
@@ -31,7 +31,7 @@ pub record Steps (x k y u a v : ℕ) : Type 0 where
 
 pub steps : {x k y u a v : ℕ} → x ≤ 64 → k ≤ 8 → y ≤ 64 → u < x → a < k → v < y → Steps x k y u a v
 steps {x} {k} {y} {u} {a} {v} hx hk hy h b l =
-    let r = room hx hk hy in
+    let r = small hx hk hy in
     let row : u * k + a < x * k = digits-lt h b in
     let inside : cellAt k y u a v < x * k * y = cell-inside h b l in
     record { sender = omega (arith, r .rows); row = omega (arith, r .rows); start = omega (arith, r .cells); place = omega (arith, r .cells); inside = inside }
@@ -86,5 +86,5 @@ pub table-at : (s t k : ℕ) (M : Cells) (r c : ℕ → ℕ) (p a q : ℕ) → p
 unfolding cell tableOf
 table-at s t k M r c p a q h b l =
     let w : Parts k t p a q = parts b l in
-    getD-tab (s * k * t) (λ i. M (r (i / t / k)) (i / t % k) (c (i % t))) (cellAt k t p a q) (cell-inside h b l)
+    getD-tab _ _ (cellAt k t p a q) (cell-inside h b l)
     ∙ rw (w .sender, w .right, w .receiver)

@@ -16,7 +16,7 @@ use Rattle.model.specs.Rules.{lowest, lowestRule, lengthRule, listRules,
 use Rattle.model.specs.Rules.{tableRules, requestRules, pairRules, roomRules}
 use Rattle.model.proofs.Tests.{same-test, eqb-of, decide, true-of, false-of}
 use Rattle.model.proofs.Below.{first-of, first-none, first-same, any-at, any-of}
-use Rattle.model.proofs.Answers.{checked-fine, checked-applies, checked-passes}
+use Rattle.model.proofs.Groups.{checked-fine, checked-applies, checked-passes}
 
 -- ---- sizes
 
@@ -39,6 +39,24 @@ sizes-fine n k d e =
     let (t3, t4) = or-false (eqb k 0) (ltb 8 k) t1 in
     let some = eqb-false k 0 t3 in
     record { entities = ltb-false 64 n t0; right = omega arith; rights = ltb-false 8 k t4; domains = ltb-false 64 d t2 }
+
+-- each exit of the code's tests
+module _ (n k d : ℕ) where
+  pub sizes-n : 64 < n → Bad (refusal 1 0) ≡ checked (sizeRules n k d)
+  unfolding sizeRules
+  sizes-n h = rw (lt-ltb 64 n h)
+
+  pub sizes-none : n ≤ 64 → k ≡ 0 → Bad (refusal 1 1) ≡ checked (sizeRules n k d)
+  unfolding sizeRules
+  sizes-none h e = rw (le-ltb 64 n h, eq-eqb k 0 e)
+
+  pub sizes-k : n ≤ 64 → 8 < k → Bad (refusal 1 1) ≡ checked (sizeRules n k d)
+  unfolding sizeRules
+  sizes-k h l = rw (le-ltb 64 n h, ne-eqb k 0 (λ e. omega arith), lt-ltb 8 k l)
+
+  pub sizes-d : n ≤ 64 → 0 < k → k ≤ 8 → 64 < d → Bad (refusal 1 2) ≡ checked (sizeRules n k d)
+  unfolding sizeRules
+  sizes-d h s l m = rw (le-ltb 64 n h, ne-eqb k 0 (λ e. omega arith), le-ltb 8 k l, lt-ltb 64 d m)
 
 pub sizes-pass : (n k d : ℕ) → n ≤ 64 → 0 < k → k ≤ 8 → d ≤ 64 → checked (sizeRules n k d) ≡ Fine
 unfolding sizeRules

@@ -4,7 +4,7 @@ use mathlib.Core.List.{List}
 use Prim.Native.Nat.{ℕ, _+_, _*_, _<_}
 use lib.ListN.{getD}
 
--- a value for each sender, right and receiver: 0 deny, 1 grant, 2 unlogged
+-- a value for each sender, right and receiver (Definition 4.1): 0 deny, 1 grant, 2 unlogged
 abbrev pub Cells : Type 0
 Cells = ℕ → ℕ → ℕ → ℕ
 

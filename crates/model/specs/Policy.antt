@@ -7,6 +7,7 @@ use lib.Dec.{eqb}
 use Rattle.model.specs.Below.{any, count}
 use Rattle.model.specs.Matrix.{Cells, cell}
 
+-- Definition 2.2: domains with a table between them, and a domain for each entity
 pub record Policy : Type 0 where
   pub domains : ℕ
   pub assignment : List ℕ
@@ -15,6 +16,7 @@ pub record Policy : Type 0 where
 abbrev pub policy : ℕ → List ℕ → List ℕ → Policy
 policy d s t = record { domains = d; assignment = s; table = t }
 
+-- the domain of u
 unfoldable pub domainOf : Policy → ℕ → ℕ
 domainOf P u = getD (P .assignment) u 0
 
@@ -29,6 +31,7 @@ pub record Valid (n k : ℕ) (P : Policy) : Type 0 where
 unfoldable pub answer : ℕ → Policy → Cells
 answer k P u a v = cell k (P .domains) (P .table) (domainOf P u) a (domainOf P v)
 
+-- the policy grants (u, a, v)
 abbrev pub Grants : ℕ → Policy → ℕ → ℕ → ℕ → Type 0
 Grants k P u a v = answer k P u a v ≡ 1
 
@@ -37,6 +40,7 @@ pub record Agrees (n k : ℕ) (M G : Cells) : Type 0 where
   pub grants : (u a v : ℕ) → u < n → a < k → v < n → M u a v ≡ 1 → G u a v ≡ 1
   pub denies : (u a v : ℕ) → u < n → a < k → v < n → M u a v ≡ 0 → ¬ (G u a v ≡ 1)
 
+-- the policy enforces M: its answers agree with M
 abbrev pub Enforces : ℕ → ℕ → Cells → Policy → Type 0
 Enforces n k M P = Agrees n k M (answer k P)
 
@@ -48,10 +52,10 @@ labels n d f = count d (λ p. any n (λ u. eqb (f u) p))
 unfoldable pub used : ℕ → Policy → ℕ
 used n P = labels n (P .domains) (domainOf P)
 
--- some policy of at most d domains that enforces M puts u and v together
-pub record Together (d n k : ℕ) (M : Cells) (u v : ℕ) : Type 0 where
+-- some policy of at most `limit` domains that enforces M puts u and v together
+pub record Together (limit n k : ℕ) (M : Cells) (u v : ℕ) : Type 0 where
   pub policy : Policy
-  pub few : policy .domains ≤ d
+  pub few : policy .domains ≤ limit
   pub valid : Valid n k policy
   pub enforces : Enforces n k M policy
   pub shared : domainOf policy u ≡ domainOf policy v

@@ -32,6 +32,7 @@ pub data Told : Type 0 where
   values : List ℕ → Told
   refused : Refusal → Told
 
+-- the refusal where there is one, and the values otherwise
 abbrev pub tell : Checked → List ℕ → Told
 tell Fine vs = values vs
 tell (Bad r) vs = refused r

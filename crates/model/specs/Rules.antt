@@ -48,9 +48,11 @@ tableRules k d t = listRules 7 (d * k * d) (ltb 1) t (cellRefusal 8 k d)
 abbrev pub rangeRule : ℕ → ℕ → ℕ → Rule
 rangeRule i x b = rule (leb b x) (refusal 9 i)
 
+-- 9 for a request: sender, right, receiver
 unfoldable pub requestRules : ℕ → ℕ → ℕ → ℕ → ℕ → List Rule
 requestRules n k u a v = rangeRule 0 u n ∷ rangeRule 1 a k ∷ rangeRule 2 v n ∷ []
 
+-- 9 for two entities
 unfoldable pub pairRules : ℕ → ℕ → ℕ → List Rule
 pairRules n u v = rangeRule 0 u n ∷ rangeRule 1 v n ∷ []
 

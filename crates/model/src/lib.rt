@@ -1,4 +1,4 @@
-// What several rooms answer with. The definitions stand in specs/, their laws in proofs/; this room has no code.
+// What several crates answer with. The definitions stand in specs/, their laws in proofs/; this crate has no code.
 
 // A refusal's number and place (01, "Numbers of refusal"). Only `scan` makes one.
 pub struct Refusal {

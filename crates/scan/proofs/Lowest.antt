@@ -4,6 +4,7 @@ use mathlib.Core.Path.{_≡_, refl, sym, ap, _∙_, subst}
 use mathlib.Core.Bool.{Bool, true, false, _||_}
 use mathlib.Core.List.{List}
 use Prim.Native.Nat.{ℕ, _+_, _-_, _≤_, _<_}
+use native.Mathlib.Nat.{le-refl}
 use native.Mathlib.Decide.{decLt}
 use native.Mathlib.Numerals.{add-one}
 use native.Mathlib.Omega.{arith}
@@ -44,58 +45,47 @@ pub lowest-end : (p : ℕ → Bool) (s : List ℕ) (i : ℕ) → i ≡ length s 
 unfolding lowest
 lowest-end p s i q e = q ∙ sym (first-none (length s) (at p s) (λ j h. passed-not (at p s) i e j (omega arith)))
 
--- ---- a block
+-- ---- a block: the bytes from i to e
 
-module _ (p : ℕ → Bool) (s : List ℕ) (i e : ℕ) (h : i ≤ e) (l : e ≤ length s) where
-  block : List ℕ
-  block = take (e - i) (drop i s)
+abbrev pub block : List ℕ → ℕ → ℕ → List ℕ
+block s i e = take (e - i) (drop i s)
 
-  pub block-length : length (take (e - i) (drop i s)) ≡ e - i
+module _ (s : List ℕ) (i e : ℕ) (h : i ≤ e) (l : e ≤ length s) where
+  pub block-length : length (block s i e) ≡ e - i
   block-length = length-take-le (e - i) (drop i s) (rw length-drop (omega arith))
 
-  block-long : length block ≡ e - i
-  unfolding block
-  block-long = block-length
-
-  block-at : (j : ℕ) → j < e - i → getD block j 0 ≡ getD s (i + j) 0
-  unfolding block
+  block-at : (j : ℕ) → j < e - i → getD (block s i e) j 0 ≡ getD s (i + j) 0
   block-at j b = getD-take (e - i) (drop i s) j 0 b ∙ getD-drop i s j 0
 
-  pub block-none : any i (at p s) ≡ false → any (length (take (e - i) (drop i s))) (at p (take (e - i) (drop i s))) ≡ false → any e (at p s) ≡ false
-  unfolding block
-  block-none f g = false-of (any e (at p s)) (λ t.
-      let r = any-of e (at p s) t in go (r .0) (r .1) (r .2) (decLt (r .0) i))
+module _ (p : ℕ → Bool) (s : List ℕ) (i e : ℕ) (h : i ≤ e) (l : e ≤ length s) (none : any i (at p s) ≡ false) where
+  -- no byte before i passes, and none of the block before its place r: so none before i + r
+  before : (r : ℕ) → r ≤ e - i → ((j : ℕ) → j < r → ¬ T (p (getD (block s i e) j 0))) → (j : ℕ) → j < i + r → ¬ T (p (getD s j 0))
+  before r b f j m t = go (decLt j i)
     where
-      go : (j : ℕ) → j < e → T (p (getD s j 0)) → Dec (j < i) → ⊥
-      go j b t (yes m) = passed-not (at p s) i f j m t
-      go j b t (no m) =
-          let o : j - i < e - i = omega arith in
-          let q : getD block (j - i) 0 ≡ getD s j 0 = block-at (j - i) o ∙ ap (λ x. getD s x 0) (back j m) in
-          passed-not (at p block) (length block) g (j - i) (rw block-long o) (subst (λ x. T (p x)) (sym q) t)
-        where
-          back : (j : ℕ) → ¬ (j < i) → i + (j - i) ≡ j
-          back j m = omega arith
+      go : Dec (j < i) → ⊥
+      go (yes c) = passed-not (at p s) i none j c t
+      go (no c) =
+          let back : i + (j - i) ≡ j = omega arith in
+          f (j - i) (omega arith) (subst (λ x. T (p x)) (sym (block-at s i e h l (j - i) (omega arith) ∙ ap (λ x. getD s x 0) back)) t)
 
-  pub block-some : any i (at p s) ≡ false → any (length (take (e - i) (drop i s))) (at p (take (e - i) (drop i s))) ≡ true
-      → i + lowest p (take (e - i) (drop i s)) ≡ lowest p s
-  unfolding block lowest
-  block-some f g =
-      let r = any-of (length block) (at p block) (rw g tt) in
-      let w = first-of (length block) (at p block) (r .0) (r .1) (r .2) in
-      let o : first (length block) (at p block) < e - i = omega (arith, block-long) in
-      sym (first-is (length s) (at p s) (i + first (length block) (at p block)) (omega arith)
-      (subst (λ x. T (p x)) (block-at (first (length block) (at p block)) o) (w .passes))
-      (λ j b t. go j b t o (decLt j i)))
-    where
-      go : (j : ℕ) → j < i + first (length block) (at p block) → T (p (getD s j 0)) → first (length block) (at p block) < e - i → Dec (j < i) → ⊥
-      go j b t o (yes m) = passed-not (at p s) i f j m t
-      go j b t o (no m) =
-          let c : j - i < first (length block) (at p block) = omega arith in
-          let q : getD block (j - i) 0 ≡ getD s j 0 = block-at (j - i) (omega arith) ∙ ap (λ x. getD s x 0) (back j m) in
-          first-before (length block) (at p block) (j - i) c (subst (λ x. T (p x)) (sym q) t)
-        where
-          back : (j : ℕ) → ¬ (j < i) → i + (j - i) ≡ j
-          back j m = omega arith
+  pub block-none : any (length (block s i e)) (at p (block s i e)) ≡ false → any e (at p s) ≡ false
+  block-none g = false-of (any e (at p s)) (λ t.
+      let r = any-of e (at p s) t in
+      before (e - i) (le-refl (e - i)) (λ j m. passed-not (at p (block s i e)) (length (block s i e)) g j (rw (block-length s i e h l) m))
+      (r .0) (omega (arith, r .1)) (r .2))
+
+  pub block-some : any (length (block s i e)) (at p (block s i e)) ≡ true → i + lowest p (block s i e) ≡ lowest p s
+  unfolding lowest
+  block-some g =
+      let size = length (block s i e) in
+      let q = at p (block s i e) in
+      let r = any-of size q (rw g tt) in
+      let w = first-of size q (r .0) (r .1) (r .2) in
+      let o : first size q < e - i = omega (arith, block-length s i e h l) in
+      sym (first-is (length s) (at p s) (i + first size q) (omega arith)
+      (subst (λ x. T (p x)) (block-at s i e h l (first size q) o) (w .passes)) (before (first size q) (omega arith) (first-before size q)))
+
+-- ---- bounds
 
 pub lowest-le : (p : ℕ → Bool) (s : List ℕ) → lowest p s ≤ length s
 unfolding lowest

@@ -8,7 +8,7 @@ use native.Mathlib.Omega.{arith}
 use borrow.Author.Tests.{eq-eqb, ne-eqb}
 use lib.Arith.{digits-div, digits-mod}
 use Rattle.model.specs.Refusal.{Told, values, refused}
-use Rattle.soroluzko.specs.Word.{fields, unfields, word, unword, Room}
+use Rattle.soroluzko.specs.Word.{fields, unfields, placeBits, word, unword, Carried}
 
 -- a sum's low digit, and what is above it
 turned : (b x f : ℕ) → x + b * f ≡ f * b + x
@@ -32,17 +32,17 @@ fields-kept (w ∷ ws) (x ∷ vs) (more h f) =
     ap₂ (λ (y : ℕ) (ys : List ℕ). y ∷ ys) (low (2 ^ w) x (fields ws vs) h)
     (ap (unfields ws) (high (2 ^ w) x (fields ws vs) h) ∙ fields-kept ws vs f)
 
--- what has room in the word
+-- what a word can carry
 abbrev pub Held : List ℕ → Told → Type 0
 Held ws (values vs) = Fit ws vs
-Held ws (refused r) = Room r
+Held ws (refused r) = Carried r
 
 module _ (ws : List ℕ) (y : ℕ) where
   unword-values : y % 256 ≡ 0 → unword ws y ≡ values (unfields ws (y / 256))
   unfolding unword
   unword-values e = rw (eq-eqb (y % 256) 0 e)
 
-  unword-refused : ¬ (y % 256 ≡ 0) → unword ws y ≡ refused (record { number = y % 256; place = y / 256 % 2 ^ 24 })
+  unword-refused : ¬ (y % 256 ≡ 0) → unword ws y ≡ refused (record { number = y % 256; place = y / 256 % 2 ^ placeBits })
   unfolding unword
   unword-refused f = rw (ne-eqb (y % 256) 0 f)
 
@@ -61,5 +61,5 @@ word-kept ws (refused r) h =
     p : (r .number + 256 * r .place) % 256 ≡ r .number
     p = low 256 (r .number) (r .place) (h .number)
 
-    q : (r .number + 256 * r .place) / 256 % 2 ^ 24 ≡ r .place
-    q = ap (λ (z : ℕ). z % 2 ^ 24) (high 256 (r .number) (r .place) (h .number)) ∙ mod-eq-of-lt (h .place)
+    q : (r .number + 256 * r .place) / 256 % 2 ^ placeBits ≡ r .place
+    q = ap (λ (z : ℕ). z % 2 ^ placeBits) (high 256 (r .number) (r .place) (h .number)) ∙ mod-eq-of-lt (h .place)

@@ -19,19 +19,23 @@ unfoldable pub unfields : List ℕ → ℕ → List ℕ
 unfields [] y = []
 unfields (w ∷ ws) y = y % 2 ^ w ∷ unfields ws (y / 2 ^ w)
 
--- the word of what is told, and what a word tells. A refusal's place has 24 bits
+-- the bits of a refusal's place
+abbrev pub placeBits : ℕ
+placeBits = 24
+
+-- the word of what is told, and what a word tells
 unfoldable pub word : List ℕ → Told → ℕ
 word ws (values vs) = 256 * fields ws vs
 word ws (refused r) = r .number + 256 * r .place
 
 unfoldable pub unword : List ℕ → ℕ → Told
-unword ws y = cond (eqb (y % 256) 0) (values (unfields ws (y / 256))) (refused (record { number = y % 256; place = y / 256 % 2 ^ 24 }))
+unword ws y = cond (eqb (y % 256) 0) (values (unfields ws (y / 256))) (refused (record { number = y % 256; place = y / 256 % 2 ^ placeBits }))
 
--- a refusal whose number and place have room there
-pub record Room (r : Refusal) : Type 0 where
+-- a refusal that a word can carry
+pub record Carried (r : Refusal) : Type 0 where
   pub given : 0 < r .number
   pub number : r .number < 256
-  pub place : r .place < 2 ^ 24
+  pub place : r .place < 2 ^ placeBits
 
 -- the ask's word: bit 8 is the grant
 abbrev pub askWord : ℕ → ℕ → ℕ → ℕ → ℕ → Policy → ℕ

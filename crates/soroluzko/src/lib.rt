@@ -5,11 +5,11 @@ ghost use mathlib.Core.Path.{_≡_};
 ghost use mathlib.Core.List.{[]};
 ghost use Rattle.model.specs.Policy.{policy};
 ghost use Rattle.model.specs.Refusal.{refused};
-ghost use Rattle.soroluzko.specs.Word.{word, Room, askWord};
+ghost use Rattle.soroluzko.specs.Word.{word, Carried, askWord};
 
 // The word of a refusal.
 fn refusal_word(r: Refusal) -> u64
-    requires { ⌜ Room r ⌝ }
+    requires { ⌜ Carried r ⌝ }
     ensures { λ w. ⌜ w ≡ word [] (refused r) ⌝ }
 {
     let number = r.number;

@@ -7,7 +7,7 @@ use Rattle.model.specs.Policy.{Policy, policy}
 use Rattle.model.specs.Refusal.{checked, refused}
 use Rattle.model.specs.Rules.{sizeRules, requestRules}
 use Rattle.model.proofs.Rules.{Sized, sizes-fine, request-fine}
-use Rattle.model.proofs.Places.{room}
+use Rattle.model.proofs.Places.{small}
 use Rattle.ask.specs.Ask.{lookRules}
 use Rattle.ask.proofs.Exits.{told, sizes-bad, assignment-bad, table-bad, request-bad, looks}
 use borrow.Author.Needs.{needs}
@@ -59,10 +59,10 @@ returns-2 c =
     ap refused (c .refuse .ensures) ∙ assignment-bad (a .n) (a .k) (a .u) (a .a) (a .v) (P s) (sized s) (omega arith)
 
 mul-if2 : tie.Need-mul-if2
-mul-if2 c = let l = limits (c .before) in omega (arith, room (l .domains) (l .rights) (l .domains) .rows)
+mul-if2 c = let l = limits (c .before) in omega (arith, small (l .domains) (l .rights) (l .domains) .rows)
 
 mul-if2-2 : tie.Need-mul-if2-2
-mul-if2-2 c = let l = limits (c .before) in omega (arith, room (l .domains) (l .rights) (l .domains) .cells)
+mul-if2-2 c = let l = limits (c .before) in omega (arith, small (l .domains) (l .rights) (l .domains) .cells)
 
 refuse-requires-2 : tie.Need-refuse-requires-2
 refuse-requires-2 c κs = search needs

@@ -5,17 +5,17 @@ use native.Mathlib.Omega.{arith}
 use lib.Dec.{leb}
 use Rattle.model.specs.declared.Checked.the-variants.{Bad}
 use Rattle.model.specs.Refusal.{cellRefusal}
-use Rattle.model.proofs.Places.{room}
+use Rattle.model.proofs.Places.{small}
 use Rattle.model.proofs.Rules.{list-short, list-bad, list-passes}
 use borrow.Author.Needs.{needs}
 use Rattle.scan.proofs.cells_fit.Statement.{statement}
 use Rattle.scan.proofs.cells_fit.Tie as tie
 
 mul-if1 : tie.Need-mul-if1
-mul-if1 c = let h = c .before .pre in omega (arith, room (h .0) (h .1) (h .2) .rows)
+mul-if1 c = let h = c .before .pre in omega (arith, small (h .0) (h .1) (h .2) .rows)
 
 mul-if1-2 : tie.Need-mul-if1-2
-mul-if1-2 c = let h = c .before .pre in omega (arith, room (h .0) (h .1) (h .2) .cells)
+mul-if1-2 c = let h = c .before .pre in omega (arith, small (h .0) (h .1) (h .2) .cells)
 
 refuse-requires : tie.Need-refuse-requires
 refuse-requires c κs = search needs

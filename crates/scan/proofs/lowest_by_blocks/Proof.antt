@@ -6,10 +6,10 @@ use mathlib.Core.Bool.{false}
 use Prim.Native.Nat.{ℕ, _+_, _-_, _≤_}
 use native.Mathlib.Omega.{arith}
 use lib.Dec.{leb}
-use lib.ListN.{length, take, drop}
+use lib.ListN.{length}
 use Rattle.model.specs.Below.{any}
 use Rattle.model.specs.Rules.{lowest}
-use Rattle.scan.proofs.Lowest.{at, passed-none, block-length, block-none, block-some, lowest-end, lowest-le}
+use Rattle.scan.proofs.Lowest.{at, passed-none, block, block-length, block-none, block-some, lowest-end, lowest-le}
 use Rattle.scan.proofs.lowest_by_blocks.Statement.{statement}
 use Rattle.scan.proofs.lowest_by_blocks.Tie as tie
 
@@ -67,8 +67,8 @@ add-result c =
     let args = c .before .before .before .before .before .before .before .before .before .args in
     let i = c .before .before .before .before .before .before .before .loop .i in
     let e = c .before .before .before .before .before .block-end .result in
-    let size = block-length (leb (args .b)) (args .s .now) i e (omega arith) (omega arith) in
-    omega (arith, lowest-le (leb (args .b)) (take (e - i) (drop i (args .s .now))), c .lowest-in .ensures)
+    let size = block-length (args .s .now) i e (omega arith) (omega arith) in
+    omega (arith, lowest-le (leb (args .b)) (block (args .s .now) i e), c .lowest-in .ensures)
 
 returns : tie.Need-returns Inv-loop μ-loop
 returns c = found c

@@ -1,5 +1,5 @@
 -- `scan::pair_fits` finds what its rules find: each test is the test of one rule, in the rules' order. Assumes nothing.
-use Rattle.model.proofs.Answers.{tests}
+use Rattle.model.proofs.Groups.{tests}
 use Rattle.model.specs.Rules.{pairRules}
 use borrow.Author.Needs.{needs}
 use Rattle.scan.proofs.pair_fits.Statement.{statement}

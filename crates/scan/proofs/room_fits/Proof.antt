@@ -1,5 +1,5 @@
 -- `scan::room_fits` finds what its rules find: its test is the rule's. Assumes nothing.
-use Rattle.model.proofs.Answers.{tests}
+use Rattle.model.proofs.Groups.{tests}
 use Rattle.model.specs.Rules.{roomRules}
 use borrow.Author.Needs.{needs}
 use Rattle.scan.proofs.room_fits.Statement.{statement}

@@ -1,6 +1,8 @@
 -- `scan::sizes` finds what its rules find: each test is the test of one rule, in the rules' order; k's rule is the two tests on k. Assumes nothing.
-use Rattle.model.proofs.Answers.{tests}
-use Rattle.model.specs.Rules.{sizeRules}
+use mathlib.Core.Path.{sym, ap, _∙_}
+use native.Mathlib.Omega.{arith}
+use Rattle.model.specs.declared.Checked.the-variants.{Bad}
+use Rattle.model.proofs.Rules.{sizes-n, sizes-none, sizes-k, sizes-d, sizes-pass}
 use borrow.Author.Needs.{needs}
 use Rattle.scan.proofs.sizes.Statement.{statement}
 use Rattle.scan.proofs.sizes.Tie as tie
@@ -9,33 +11,28 @@ refuse-requires : tie.Need-refuse-requires
 refuse-requires c κs = search needs
 
 returns : tie.Need-returns
-unfolding sizeRules
-returns c = search tests
+returns c = let a = c .before .before .args in ap Bad (c .refuse .ensures) ∙ sizes-n (a .n) (a .k) (a .d) (omega arith)
 
 refuse-requires-2 : tie.Need-refuse-requires-2
 refuse-requires-2 c κs = search needs
 
 returns-2 : tie.Need-returns-2
-unfolding sizeRules
-returns-2 c = search tests
+returns-2 c = let a = c .before .before .before .args in ap Bad (c .refuse2 .ensures) ∙ sizes-none (a .n) (a .k) (a .d) (omega arith) (omega arith)
 
 refuse-requires-3 : tie.Need-refuse-requires-3
 refuse-requires-3 c κs = search needs
 
 returns-3 : tie.Need-returns-3
-unfolding sizeRules
-returns-3 c = search tests
+returns-3 c = let a = c .before .before .before .before .args in ap Bad (c .refuse3 .ensures) ∙ sizes-k (a .n) (a .k) (a .d) (omega arith) (omega arith)
 
 refuse-requires-4 : tie.Need-refuse-requires-4
 refuse-requires-4 c κs = search needs
 
 returns-4 : tie.Need-returns-4
-unfolding sizeRules
-returns-4 c = search tests
+returns-4 c = let a = c .before .before .before .before .before .args in ap Bad (c .refuse4 .ensures) ∙ sizes-d (a .n) (a .k) (a .d) (omega arith) (omega arith) (omega arith) (omega arith)
 
 returns-5 : tie.Need-returns-5
-unfolding sizeRules
-returns-5 c = search tests
+returns-5 c = let a = c .before .before .before .before .args in sym (sizes-pass (a .n) (a .k) (a .d) (omega arith) (omega arith) (omega arith) (omega arith))
 
 pub sizes-spec : {M : Type 1} → statement M
 sizes-spec =

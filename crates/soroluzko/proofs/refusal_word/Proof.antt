@@ -1,4 +1,4 @@
--- `soroluzko::refusal_word` meets its contract: the sum is the word, and it fits since number and place have room. Assumes nothing.
+-- `soroluzko::refusal_word` meets its contract: the sum is the word, and it fits since the word can carry it. Assumes nothing.
 use native.Mathlib.Omega.{arith}
 use Rattle.soroluzko.specs.Word.{word}
 use borrow.Author.Needs.{needs}

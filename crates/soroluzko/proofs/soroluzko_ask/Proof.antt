@@ -1,4 +1,4 @@
--- `soroluzko::soroluzko_ask` meets its contract: each case of the answer has its word, and every refusal has room in one (`Ask`).
+-- `soroluzko::soroluzko_ask` meets its contract: each case of the answer has its word, and a word can carry every refusal (`Ask`).
 -- Assumes nothing.
 use mathlib.Core.Path.{sym, ap, _∙_, subst}
 use mathlib.Core.List.{[], _∷_}

@@ -1,4 +1,4 @@
--- What a row of rules finds, group by group: where the first group applies it decides, and else the later ones do.
+-- What a list of rules finds, group by group: where the first group applies it decides, and else the later ones do.
 -- Assumes nothing.
 use mathlib.Core.Path.{_≡_, refl, _∙_, subst}
 use mathlib.Core.Bool.{Bool, true, false, cond}
@@ -28,7 +28,7 @@ checked-applies b r c e = rw e
 pub checked-passes : (b : Bool) (r : Refusal) (c : Checked) → b ≡ false → cond b (Bad r) c ≡ c
 checked-passes b r c e = rw e
 
--- a row of rules finds nothing only where its first does not apply and the later ones find nothing
+-- a list of rules finds nothing only where its first does not apply and the later ones find nothing
 pub checked-fine : (b : Bool) (r : Refusal) (c : Checked) → cond b (Bad r) c ≡ Fine → (b ≡ false) × (c ≡ Fine)
 checked-fine true r c e = let z : _≡_ {A = ℕ} 0 1 = cc in absurd (omega arith)
 checked-fine false r c e = (refl, e)
@@ -49,7 +49,7 @@ group-bad (s ∷ rs) qs r e = go (s .applies) (λ f. group-bad rs qs r f) e
     go true ih f = f
     go false ih f = ih f
 
--- ---- what every refusal of a row has
+-- ---- what every refusal of a list has
 
 -- each rule that applies, with none before it, gives a refusal that has S
 abbrev pub Gives : (Refusal → Type 0) → List Rule → Type 0
