@@ -1,6 +1,6 @@
 /*
- * Times soroluzko_ask against plain_ask, a C function that makes the same tests: the same requests to the same policy, taken turn about
- * in rounds of which the fastest counts. Both are called across an object file, compiled at -O3. Prints nanoseconds a call and the ratio.
+ * Times soroluzko_ask against plain_ask, a C function that makes the same tests: the same requests to the same policy, turn about in
+ * short rounds. Both are called across an object file, compiled at -O3. Prints the medians of nanoseconds a call and of the rounds' ratios.
  */
 #define _POSIX_C_SOURCE 200809L
 #include <stdio.h>
@@ -10,7 +10,7 @@
 #include "plain.h"
 #include "soroluzko.h"
 
-enum { REQUESTS = 4096, TURNS = 50, ROUNDS = 200 };
+enum { REQUESTS = 4096, TURNS = 10, ROUNDS = 1001 };
 
 typedef uint64_t asker(size_t, size_t, size_t, size_t, size_t, size_t, const uint8_t *, size_t, const uint8_t *, size_t);
 
@@ -32,19 +32,29 @@ static double round_of(asker *ask, uint64_t *sum) {
     return (now() - start) / ((double)TURNS * REQUESTS);
 }
 
+static int rising(const void *x, const void *y) {
+    double a = *(const double *)x, b = *(const double *)y;
+    return (a > b) - (a < b);
+}
+
+static double median(double *times) {
+    qsort(times, ROUNDS, sizeof *times, rising);
+    return times[ROUNDS / 2];
+}
+
 int main(void) {
     srand(20261115);
     for (int i = 0; i < 64; i++) assignment[i] = (uint8_t)(rand() % 64);
     for (int i = 0; i < 32768; i++) table[i] = (uint8_t)(rand() % 2);
     for (int i = 0; i < REQUESTS; i++) requests[i] = (struct soroluzko_request){rand() % 64, rand() % 8, rand() % 64};
-    double proved = 1e9, plain = 1e9;
+    static double proved[ROUNDS], plain[ROUNDS], ratio[ROUNDS];
     uint64_t ours = 0, theirs = 0;
     for (int i = 0; i < ROUNDS; i++) {
-        double t = round_of(soroluzko_ask, &ours), s = round_of(plain_ask, &theirs);
-        if (t < proved) proved = t;
-        if (s < plain) plain = s;
+        proved[i] = round_of(soroluzko_ask, &ours);
+        plain[i] = round_of(plain_ask, &theirs);
+        ratio[i] = proved[i] / plain[i];
     }
     if (ours != theirs) return puts("the answers differ"), 1;
-    printf("ask at n 64, k 8, d 64: proved %.2f ns, plain C %.2f ns, ratio %.2f\n", proved, plain, proved / plain);
+    printf("ask at n 64, k 8, d 64: proved %.2f ns, plain C %.2f ns, ratio %.2f\n", median(proved), median(plain), median(ratio));
     return 0;
 }

@@ -17,7 +17,7 @@ fn refusal_word(r: Refusal) -> u64
     number as u64 + 256 * place as u64
 }
 
-// The ask. It reads no byte but those that `ask::ask` reads, and writes none.
+// The ask, for C: `ask::ask` with its answer as a word.
 #[no_mangle]
 pub extern "C" fn soroluzko_ask(
     n: usize,
