@@ -156,14 +156,18 @@ pub unlogged : (m : List ℕ) → ((i : ℕ) → i < length m → getD m i 0 < 3
 unfolding lowest
 unlogged m f = first-same (length m) (λ i. leb 2 (getD m i 0)) (λ i. eqb 2 (getD m i 0)) (λ i h. two (getD m i 0) (f i h))
 
+-- where the rule of a lowest place does not apply, no element passes
+lowest-clear : (p : ℕ → Bool) (l : List ℕ) (at : ℕ → Refusal) → checked (lowestRule p l at ∷ []) ≡ Fine
+    → (i : ℕ) → i < length l → p (getD l i 0) ≡ false
+unfolding lowestRule
+lowest-clear p l at e = lowest-none p l (checked-fine (any (length l) (λ i. p (getD l i 0))) (at (lowest p l)) Fine e .0)
+
 pub full-fine : (n k : ℕ) (m : List ℕ) → Filled (n * k * n) 3 m → checked (fullRules n k m) ≡ Fine → Filled (n * k * n) 2 m
-unfolding fullRules lowestRule
-full-fine n k m F e =
-    let (b, _) = checked-fine (any (length m) (λ i. eqb 2 (getD m i 0))) (cellRefusal 4 k n (lowest (eqb 2) m)) Fine e in
-    record { long = F .long; below = λ i h. low (getD m i 0) (F .below i h) (eqb-false 2 (getD m i 0) (lowest-none (eqb 2) m b i h)) }
-  where
-    low : (x : ℕ) → x < 3 → ¬ (2 ≡ x) → x < 2
-    low x h f = omega arith
+unfolding fullRules
+full-fine n k m F e = record {
+  long = F .long;
+  below = λ i h. let unlike = eqb-false _ (getD m i 0) (lowest-clear _ m _ e i h) in omega (arith, F .below i h, unlike);
+}
 
 -- ---- asked numbers, room
 

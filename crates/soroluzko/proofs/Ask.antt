@@ -1,5 +1,6 @@
 -- A word can carry every refusal of the ask: its numbers are those of the table, and its places are small, since a domain or a
--- cell is named only once the sizes and the request were in order. So the ask's word loses nothing. Assumes nothing.
+-- cell is named only once the sizes and the request were in order. So the ask's word loses nothing, and is below 2^32.
+-- Assumes nothing.
 use mathlib.Core.Path.{_≡_, refl}
 use mathlib.Core.Bool.{Bool, true, false, cond}
 use mathlib.Core.List.{[], _∷_}
@@ -11,13 +12,13 @@ use Rattle.model.specs.declared.Checked.{Checked}
 use Rattle.model.specs.declared.Checked.the-variants.{Fine, Bad}
 use Rattle.model.specs.Matrix.{cellAt}
 use Rattle.model.specs.Policy.{Policy, domainOf, answer}
-use Rattle.model.specs.Refusal.{refusal, cellRefusal, checked, tell}
+use Rattle.model.specs.Refusal.{refusal, cellRefusal, checked, Told, values, refused, tell}
 use Rattle.model.specs.Rules.{sizeRules, requestRules}
 use Rattle.model.proofs.Groups.{Gives, gives-bad, gives-group}
 use Rattle.model.proofs.Places.{steps}
 use Rattle.model.proofs.Rules.{Sized, sizes-fine, request-fine}
 use Rattle.ask.specs.Ask.{lookRules, askRules, granted, askTold}
-use Rattle.soroluzko.specs.Word.{placeBits, Carried, AskKept}
+use Rattle.soroluzko.specs.Word.{fields, placeBits, wordBits, word, Carried, AskKept}
 use Rattle.soroluzko.proofs.Word.{none, more, Held, word-kept}
 
 carried : (number place : ℕ) → 0 < number → number < 256 → place < 2 ^ placeBits → Carried (refusal number place)
@@ -90,5 +91,14 @@ module _ (n k u a v : ℕ) (P : Policy) where
       go Fine e = more (bit (eqb (answer k P u a v) 1)) none
       go (Bad r) e = gives-bad Carried (askRules n k u a v P) ask-carried r e
 
+-- what one bit, or a refusal, leaves of the word's upper half
+low : (t : Told) → Held (1 ∷ []) t → word (1 ∷ []) t < 2 ^ wordBits
+unfolding word fields
+low (values (x ∷ vs)) (more h f) = omega arith
+low (refused r) h = omega (arith, h .number, h .place)
+
 pub ask-kept : AskKept
-ask-kept n k u a v P = word-kept (1 ∷ []) (askTold n k u a v P) (ask-held n k u a v P)
+ask-kept n k u a v P =
+    let t = askTold n k u a v P in
+    let h = ask-held n k u a v P in
+    (word-kept (1 ∷ []) t h, low t h)

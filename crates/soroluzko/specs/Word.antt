@@ -19,9 +19,12 @@ unfoldable pub unfields : List ℕ → ℕ → List ℕ
 unfields [] y = []
 unfields (w ∷ ws) y = y % 2 ^ w ∷ unfields ws (y / 2 ^ w)
 
--- the bits of a refusal's place
+-- the bits of a refusal's place, and of the whole word; the others are 0
 abbrev pub placeBits : ℕ
 placeBits = 24
+
+abbrev pub wordBits : ℕ
+wordBits = 32
 
 -- the word of what is told, and what a word tells
 unfoldable pub word : List ℕ → Told → ℕ
@@ -41,6 +44,7 @@ pub record Carried (r : Refusal) : Type 0 where
 abbrev pub askWord : ℕ → ℕ → ℕ → ℕ → ℕ → Policy → ℕ
 askWord n k u a v P = word (1 ∷ []) (askTold n k u a v P)
 
--- nothing is lost: the word tells what the ask told
+-- nothing is lost: the word tells what the ask told, and has no more bits
 abbrev pub AskKept : Type 0
-AskKept = (n k u a v : ℕ) (P : Policy) → unword (1 ∷ []) (askWord n k u a v P) ≡ askTold n k u a v P
+AskKept = (n k u a v : ℕ) (P : Policy)
+    → (unword (1 ∷ []) (askWord n k u a v P) ≡ askTold n k u a v P) × (askWord n k u a v P < 2 ^ wordBits)
