@@ -2,19 +2,28 @@
  * Soroluzko: domain policies for a message broker. The calls of libsoroluzko.a, for C.
  *
  * There are 0 to 64 entities, 1 to 8 rights and 0 to 64 domains, each numbered from 0.
+ *
+ * A matrix for n entities and k rights has n*k*n bytes, with the cell of (u, a, v), "u may use right a towards v", at (u*k + a)*n + v.
+ * A cell is 0 (deny), 1 (grant) or 2 (unlogged). A matrix is full if no cell is 2.
  * A policy for n entities and k rights has d domains; an assignment of n bytes, the domain of each entity; and a table of d*k*d
- * bytes, each 0 or 1, with the cell of (p, a, q) at (p*k + a)*d + q. It grants (u, a, v), "u may use right a towards v", if the
- * cell of (domain of u, a, domain of v) is 1.
+ * bytes, each 0 or 1, with the cell of (p, a, q) at (p*k + a)*d + q. It grants (u, a, v) if the cell of (domain of u, a, domain of v)
+ * is 1. It enforces a matrix if it grants where the matrix has 1 and does not where it has 0; cells that are 2 bind nothing.
+ * Two entities u and v of a full matrix are alike if for every right a the cells (u, a, u), (u, a, v), (v, a, u) and (v, a, v) are
+ * equal, and (u, a, x) equals (v, a, x) and (x, a, u) equals (x, a, v) for every other x.
  *
  * Every call answers all numbers and all bytes, by one word; the low byte is the refusal's number, 0 where there is none:
  *
  *     bits 0-7   number of the refusal, or 0
- *     bits 8-31  the refusal's place; where nothing is refused, what the call answers
+ *     bits 8-31  the refusal's place, 0 where none is given
+ *     bits 8-39  where nothing is refused, what the call answers
  *     the rest   0
  *
- * Pointers and lengths. Each pointer refers to as many readable bytes as the length after it says, at most PTRDIFF_MAX, and nothing
- * changes them during the call. Where the length is 0 nothing is read through the pointer, and it may be NULL. The calls keep no
- * pointer, use no memory but their stack and have no state, so they may run at the same time.
+ * Of several refusals that apply the first is given, in the order that the call lists. A call that is refused has written nothing.
+ *
+ * Pointers and lengths. Each pointer refers to as many bytes as the length after it says, at most PTRDIFF_MAX: readable ones, and
+ * writable ones where the pointer is not to const. Nothing else changes them during the call, and no byte that a call may write is also
+ * part of another of its slices. Where the length is 0 nothing is read or written through the pointer, and it may be NULL. The calls keep
+ * no pointer, use no memory but their stack and have no state, so they may run at the same time.
  *
  * This page is not checked by the prover. The promise of each call is proved of its Rattle source (docs/PROMISES.md).
  */
@@ -45,6 +54,23 @@ static inline size_t soroluzko_place(uint64_t answer) { return (size_t)(answer >
 
 /* Whether an ask was granted: not refused, and the policy grants. */
 static inline bool soroluzko_granted(uint64_t answer) { return (answer & 0x1ff) == 0x100; }
+
+/* Whether two entities are alike: not refused, and they are. */
+static inline bool soroluzko_alike_yes(uint64_t answer) { return (answer & 0x1ff) == 0x100; }
+
+/* The number of domains that a build made. It has a meaning only where not soroluzko_refused. */
+static inline size_t soroluzko_domains(uint64_t answer) { return (size_t)(answer >> 8 & 0xff); }
+
+/* Whether a judged policy enforces the matrix, and whether it does not: at most one, and neither where it was refused. */
+static inline bool soroluzko_enforces(uint64_t answer) { return (answer & 0x1ff) == 0; }
+static inline bool soroluzko_conflict(uint64_t answer) { return (answer & 0x1ff) == 0x100; }
+
+/* The number of domains of a judged policy. It has a meaning only where soroluzko_enforces. */
+static inline size_t soroluzko_enforces_domains(uint64_t answer) { return (size_t)(answer >> 16 & 0xff); }
+
+/* The cell of the first conflict and the value logged there. They have a meaning only where soroluzko_conflict. */
+static inline size_t soroluzko_conflict_cell(uint64_t answer) { return (size_t)(answer >> 16 & 0xffff); }
+static inline uint8_t soroluzko_conflict_logged(uint64_t answer) { return (uint8_t)(answer >> 32 & 0xff); }
 
 /* A policy and a request. Name the members where you fill them in (.n = 3, .k = 1, ..), so that no two numbers are exchanged. */
 
@@ -84,6 +110,61 @@ uint64_t soroluzko_ask(size_t n, size_t k, size_t d, size_t u, size_t a, size_t 
 /* The same, of a policy and a request. */
 static inline uint64_t soroluzko_policy_ask(const struct soroluzko_policy *p, struct soroluzko_request r) {
     return soroluzko_ask(p->n, p->k, p->d, r.u, r.a, r.v, p->assignment, p->assignment_length, p->table, p->table_length);
+}
+
+/*
+ * Alike: are u and v alike in a full matrix?
+ *
+ * Bit 8 is 1 if they are and 0 if not. Every entity is alike to itself. Refused, by the first of these that applies:
+ *
+ *     1  n above 64 (place 0); k 0 or above 8 (place 1)
+ *     2  matrix_length is not n*k*n (place 0)
+ *     3  a cell is above 2 (place: the lowest such cell)
+ *     4  a cell is 2 (place: the lowest such cell)
+ *     9  u not below n (place 0); v not below n (place 1)
+ */
+uint64_t soroluzko_alike(size_t n, size_t k, size_t u, size_t v, const uint8_t *matrix, size_t matrix_length);
+
+/*
+ * Build: the policy of a full matrix, with one domain for each class of entities that are alike.
+ *
+ * Bits 8-15 are the number d of domains. The first n bytes of assignment are the domains of the entities, numbered in order of their
+ * smallest members. The first d*k*d bytes of table are the table: the cell of (p, a, q) is the matrix cell of (smallest member of p, a,
+ * smallest member of q). Later bytes of both buffers stay as they were. The policy enforces the matrix. Refused, by the first of these
+ * that applies, and then all bytes of both buffers stay as they were:
+ *
+ *      1  n above 64 (place 0); k 0 or above 8 (place 1)
+ *      2  matrix_length is not n*k*n (place 0)
+ *      3  a cell is above 2 (place: the lowest such cell)
+ *      4  a cell is 2 (place: the lowest such cell)
+ *     10  assignment_length is below n (place n)
+ *     11  table_length is below d*k*d (place d*k*d)
+ *
+ * The two buffers must not overlap each other, nor the matrix. 64 and 32768 bytes are enough for every matrix.
+ */
+uint64_t soroluzko_build(size_t n, size_t k, const uint8_t *matrix, size_t matrix_length,
+                         uint8_t *assignment, size_t assignment_length, uint8_t *table, size_t table_length);
+
+/*
+ * Judge: does a policy enforce a matrix, full or not?
+ *
+ * If it does, bit 8 is 0 and bits 16-23 are its number of domains, which is d. If it does not, bit 8 is 1, bits 16-31 are the lowest
+ * cell on which the two conflict, and bits 32-39 are the value logged there. Refused, by the first of these that applies:
+ *
+ *     1  n above 64 (place 0); k 0 or above 8 (place 1); d above 64 (place 2)
+ *     2  matrix_length is not n*k*n (place 0)
+ *     3  a cell of the matrix is above 2 (place: the lowest such cell)
+ *     5  assignment_length is not n (place 0)
+ *     6  a domain is not below d (place: the lowest such entity)
+ *     7  table_length is not d*k*d (place 0)
+ *     8  a cell of the table is above 1 (place: the lowest such cell)
+ */
+uint64_t soroluzko_judge(size_t n, size_t k, size_t d, const uint8_t *matrix, size_t matrix_length,
+                         const uint8_t *assignment, size_t assignment_length, const uint8_t *table, size_t table_length);
+
+/* The same, of a policy. */
+static inline uint64_t soroluzko_policy_judge(const struct soroluzko_policy *p, const uint8_t *matrix, size_t matrix_length) {
+    return soroluzko_judge(p->n, p->k, p->d, matrix, matrix_length, p->assignment, p->assignment_length, p->table, p->table_length);
 }
 
 #ifdef __cplusplus

@@ -1,25 +1,13 @@
 /*
  * Calls soroluzko_ask from C: grants, denials, every refusal with its place and its order, the greatest sizes, empty slices; then
  * random calls beside plain_ask. Buffers are allocated to their exact lengths, so that valgrind sees a byte read past an end.
- *
- *     ask [CALLS [SEED]]
  */
-#include <stdio.h>
 #include <stdlib.h>
 #include <string.h>
 
+#include "harness.h"
 #include "plain.h"
 #include "soroluzko.h"
-
-static unsigned long checks, faults;
-
-static void check(bool holds, const char *what) {
-    checks++;
-    if (!holds) {
-        faults++;
-        printf("FAULT %s\n", what);
-    }
-}
 
 /* A policy whose bytes stand in memory of their exact lengths. */
 static struct soroluzko_policy policy(size_t n, size_t k, size_t d, const char *assignment, size_t s, const char *table, size_t t) {
@@ -32,7 +20,7 @@ static struct soroluzko_policy policy(size_t n, size_t k, size_t d, const char *
     return p;
 }
 
-static void drop(struct soroluzko_policy p) {
+static void forget(struct soroluzko_policy p) {
     free((void *)p.assignment);
     free((void *)p.table);
 }
@@ -43,14 +31,15 @@ static uint64_t ask(const struct soroluzko_policy *p, size_t u, size_t a, size_t
 
 static void answers(const char *what, const struct soroluzko_policy *p, size_t u, size_t a, size_t v, bool granted) {
     uint64_t got = ask(p, u, a, v);
-    check(!soroluzko_refused(got) && soroluzko_number(got) == 0 && soroluzko_granted(got) == granted, what);
-    check(got == (granted ? 256 : 0), what);
+    check(!soroluzko_refused(got) && soroluzko_number(got) == 0 && soroluzko_granted(got) == granted, "%s", what);
+    check(got == (granted ? 256 : 0), "%s", what);
 }
 
 static void refuses(const char *what, const struct soroluzko_policy *p, size_t u, size_t a, size_t v, unsigned number, size_t place) {
     uint64_t got = ask(p, u, a, v);
-    check(soroluzko_refused(got) && soroluzko_number(got) == number && soroluzko_place(got) == place && !soroluzko_granted(got), what);
-    check(got >> 32 == 0, what);
+    check(soroluzko_refused(got) && soroluzko_number(got) == number && soroluzko_place(got) == place, "%s", what);
+    check(!soroluzko_granted(got), "%s", what);
+    check(got >> 32 == 0, "%s", what);
 }
 
 static void grants_and_denials(void) {
@@ -58,14 +47,14 @@ static void grants_and_denials(void) {
     struct soroluzko_policy p = policy(3, 1, 2, "\0\0\1", 3, "\0\1\0\0", 4);
     for (size_t u = 0; u < 3; u++)
         for (size_t v = 0; v < 3; v++) answers("the whole example", &p, u, 0, v, u < 2 && v == 2);
-    drop(p);
+    forget(p);
     /* P9: two rights, and a table that is not its own mirror */
     const char *cells = "\1\1\0\1\1\1\0\0";
     p = policy(2, 2, 2, "\0\1", 2, cells, 8);
     for (size_t u = 0; u < 2; u++)
         for (size_t a = 0; a < 2; a++)
             for (size_t v = 0; v < 2; v++) answers("P9", &p, u, a, v, cells[(u * 2 + a) * 2 + v] == 1);
-    drop(p);
+    forget(p);
 }
 
 static void refusals(void) {
@@ -99,7 +88,7 @@ static void refusals(void) {
     p = good, p.table_length = 0, refuses("7 before 9", &p, most, most, most, 7, 0);
     refuses("9 for u first", &good, most, most, most, 9, 0);
     refuses("9 for a before v", &good, 0, most, most, 9, 1);
-    drop(good);
+    forget(good);
 
     /* domain numbers, with an odd place that must not read as a grant; and the one cell */
     p = policy(3, 1, 2, "\2\377\1", 3, "\0\1\0\3", 4);
@@ -110,13 +99,13 @@ static void refusals(void) {
     refuses("6 for v, and no lower one", &p, 2, 0, 1, 6, 1);
     refuses("6 for v", &p, 2, 0, 0, 6, 0);
     refuses("8 for the one cell", &p, 2, 0, 2, 8, 3);
-    drop(p);
+    forget(p);
     p = policy(2, 1, 2, "\0\1", 2, "\2\1\0\377", 4);
     refuses("8 at cell 0", &p, 0, 0, 0, 8, 0);
     answers("no other cell is searched", &p, 0, 0, 1, true);
     answers("no other cell is searched", &p, 1, 0, 0, false);
     refuses("8 at cell 3", &p, 1, 0, 1, 8, 3);
-    drop(p);
+    forget(p);
 }
 
 static void edges(void) {
@@ -131,7 +120,7 @@ static void edges(void) {
     /* one entity and no domain for it */
     p = policy(1, 1, 0, "\0", 1, "", 0);
     refuses("no domain is below 0", &p, 0, 0, 0, 6, 0);
-    drop(p);
+    forget(p);
 
     /* the largest policy, with a fault in its last cell, and domains without a member */
     uint8_t *assignment = malloc(64), *table = calloc(32768, 1);
@@ -156,63 +145,34 @@ static void edges(void) {
     free(assignment), free(table);
 }
 
-/* ---- random calls */
-
-static uint64_t state;
-
-static uint64_t next(void) {
-    state ^= state << 13, state ^= state >> 7, state ^= state << 17;
-    return state * 0x2545f4914f6cdd1d;
-}
-
-static size_t below(size_t n) { return (size_t)(next() >> 33) % n; }
-
-/* mostly a number up to most, at times one past it, rarely one of the greatest */
-static size_t number(size_t most) {
-    size_t kind = below(64);
-    return kind == 0 ? SIZE_MAX - below(3) : kind == 1 ? most + 1 : below(most + 1);
-}
-
-/* how often each was answered: 0 denied, 1 granted, and 2 + the number of a refusal */
-static unsigned long met[16];
-
-static void random_calls(unsigned long calls) {
-    for (unsigned long i = 0; i < calls; i++) {
-        size_t n = number(64), k = number(8), d = number(below(4) ? 4 : 64);
-        size_t s = below(32) || n > 64 ? (n > 64 ? below(65) : n) : below(66);
-        size_t t = d <= 64 && k <= 8 ? d * k * d : below(40);
-        if (below(32) == 0) t = below(t + 2);
-        uint8_t *assignment = s ? malloc(s) : NULL, *table = t ? malloc(t) : NULL;
-        for (size_t j = 0; j < s; j++) assignment[j] = (uint8_t)(below(24) ? below(d && d <= 64 ? d : 1) : next());
-        for (size_t j = 0; j < t; j++) table[j] = (uint8_t)(below(8) ? below(2) : below(4));
-        for (int j = 0; j < 8; j++) {
-            size_t u = number(n && n <= 64 ? n - 1 : 2), a = number(k && k <= 8 ? k - 1 : 2), v = number(n && n <= 64 ? n - 1 : 2);
-            uint64_t got = soroluzko_ask(n, k, d, u, a, v, assignment, s, table, t);
-            uint64_t want = plain_ask(n, k, d, u, a, v, assignment, s, table, t);
-            checks++;
-            met[want & 0xff ? 2 + (want & 0xff) : want >> 8]++;
-            if (got != want && faults++ < 10)
-                printf("FAULT n %zu k %zu d %zu u %zu a %zu v %zu lengths %zu %zu: %#llx, and plain C says %#llx\n", n, k, d, u, a, v, s, t,
-                       (unsigned long long)got, (unsigned long long)want);
-        }
-        free(assignment), free(table);
-    }
-    printf("random calls: %lu granted, %lu denied; refused", met[1], met[0]);
-    for (unsigned i = 1; i <= 12; i++)
-        if (met[2 + i]) printf(" %u: %lu", i, met[2 + i]);
-    printf("\n");
-    const unsigned each[] = {0, 1, 3, 7, 8, 9, 10, 11};
-    for (unsigned i = 0; i < 8; i++) check(met[each[i]] != 0, "a kind of answer that no random call met");
-}
-
-int main(int count, char **words) {
-    unsigned long calls = count > 1 ? strtoul(words[1], NULL, 10) : 200000;
-    uint64_t seed = count > 2 ? strtoull(words[2], NULL, 10) : 20261115;
-    state = seed * 2 + 1;
+static void fixed(void) {
     grants_and_denials();
     refusals();
     edges();
-    random_calls(calls);
-    printf("ask from C: %lu checks, %lu faults (seed %llu)\n", checks, faults, (unsigned long long)seed);
-    return faults != 0;
+}
+
+/* one policy, asked eight times */
+static void random_calls(void) {
+    size_t n = number(64), k = number(8), d = number(below(4) ? 4 : 64);
+    size_t s = below(32) || n > 64 ? (n > 64 ? below(65) : n) : below(66);
+    size_t t = d <= 64 && k <= 8 ? d * k * d : below(40);
+    if (below(32) == 0) t = below(t + 2);
+    struct bytes assignment = take(s), table = take(t);
+    for (size_t j = 0; j < s; j++) assignment.at[j] = (uint8_t)(below(24) ? below(d && d <= 64 ? d : 1) : next());
+    for (size_t j = 0; j < t; j++) table.at[j] = (uint8_t)(below(8) ? below(2) : below(4));
+    for (int j = 0; j < 8; j++) {
+        size_t u = number(n && n <= 64 ? n - 1 : 2), a = number(k && k <= 8 ? k - 1 : 2), v = number(n && n <= 64 ? n - 1 : 2);
+        uint64_t got = soroluzko_ask(n, k, d, u, a, v, assignment.at, s, table.at, t);
+        uint64_t want = plain_ask(n, k, d, u, a, v, assignment.at, s, table.at, t);
+        meet(want, want >> 8 & 1);
+        check(got == want, "n %zu k %zu d %zu u %zu a %zu v %zu lengths %zu %zu: %#llx, and plain C says %#llx", n, k, d, u, a, v, s, t,
+              (unsigned long long)got, (unsigned long long)want);
+    }
+    drop(assignment), drop(table);
+}
+
+int main(int count, char **words) {
+    const unsigned refusals = 1 << 1 | 1 << 5 | 1 << 6 | 1 << 7 | 1 << 8 | 1 << 9;
+    const struct test test = {"ask", {"denied", "granted"}, refusals, 200000, fixed, random_calls};
+    return run_test(&test, count, words);
 }

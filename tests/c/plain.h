@@ -1,4 +1,4 @@
-/* The ask in plain C, to compare with by answers and by the clock. */
+/* The calls in plain C, to compare with by answers; the ask by the clock too. */
 #ifndef PLAIN_H
 #define PLAIN_H
 
@@ -7,5 +7,16 @@
 
 uint64_t plain_ask(size_t n, size_t k, size_t d, size_t u, size_t a, size_t v,
                    const uint8_t *assignment, size_t assignment_length, const uint8_t *table, size_t table_length);
+
+/* by Definition 2.11, clause by clause */
+uint64_t plain_alike(size_t n, size_t k, size_t u, size_t v, const uint8_t *matrix, size_t matrix_length);
+
+/* by what each entity sends and receives, as one string */
+uint64_t plain_build(size_t n, size_t k, const uint8_t *matrix, size_t matrix_length,
+                     uint8_t *assignment, size_t assignment_length, uint8_t *table, size_t table_length);
+
+/* by one loop over the cells' numbers */
+uint64_t plain_judge(size_t n, size_t k, size_t d, const uint8_t *matrix, size_t matrix_length,
+                     const uint8_t *assignment, size_t assignment_length, const uint8_t *table, size_t table_length);
 
 #endif

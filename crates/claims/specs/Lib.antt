@@ -1,2 +1,7 @@
 pub mod Paper
 pub mod Ask
+pub mod Build
+pub mod Alike
+pub mod Judge
+pub mod Across
+pub mod Patterns

@@ -1,7 +1,8 @@
 -- Laws of `all`, `any`, `first` and `tab`. Assumes nothing.
-use mathlib.Core.Path.{_≡_, refl, ap, _∙_, subst}
+use mathlib.Core.Path.{_≡_, refl, ap, ap₂, _∙_, subst}
 use mathlib.Core.Logic.{_⊎_, inl, inr}
 use mathlib.Core.Bool.{Bool, true, false, cond, _||_}
+use mathlib.Core.List.{_∷_}
 use Prim.Native.Nat.{ℕ, zero, suc, _≤_, _<_, zero-le, suc-le-suc}
 use native.Mathlib.Nat.{le-refl, le-of-suc-le-suc, not-suc-le-zero}
 use native.Mathlib.Decide.{ℕ-discrete}
@@ -9,7 +10,7 @@ use native.Mathlib.Omega.{arith}
 use lib.Dec.{T}
 use lib.ListN.{length, getD}
 use Rattle.model.specs.Below.{all, any, first, tab}
-use Rattle.model.proofs.Tests.{and-left, and-right, and-both, or-cases, or-left, or-right, true-of, false-of}
+use Rattle.model.proofs.Tests.{and-left, and-right, and-both, or-cases, or-left, or-right, true-of, false-of, decide}
 
 -- a number below suc n is n, or below n
 pub below-suc : (n i : ℕ) → i < suc n → (i ≡ n) ⊎ (i < n)
@@ -101,6 +102,14 @@ first-of (suc n) p r h t = go (p zero) refl r h t (λ s l q. first-of n (λ i. p
 pub first-before : (n : ℕ) (p : ℕ → Bool) (i : ℕ) → i < first n p → ¬ T (p i)
 first-before n p i h t = omega (arith, first-le n p, first-of n p i (omega (arith, first-le n p)) t .least)
 
+-- a first below n passes
+pub first-found : (n : ℕ) (p : ℕ → Bool) → first n p < n → T (p (first n p))
+first-found n p h = go (decide (any n p))
+  where
+    go : T (any n p) ⊎ ¬ T (any n p) → T (p (first n p))
+    go (inl t) = let r = any-of n p t in first-of n p (r .0) (r .1) (r .2) .passes
+    go (inr f) = absurd (omega (arith, first-none n p (λ i l t. f (any-at n p i l t))))
+
 pub first-same : (n : ℕ) (p q : ℕ → Bool) → ((i : ℕ) → i < n → p i ≡ q i) → first n p ≡ first n q
 unfolding first
 first-same zero p q f = refl
@@ -118,3 +127,8 @@ unfolding tab
 getD-tab zero f i h = absurd (not-suc-le-zero h)
 getD-tab (suc n) f zero h = refl
 getD-tab (suc n) f (suc i) h = getD-tab n (λ i. f (suc i)) i (le-of-suc-le-suc h)
+
+pub tab-same : (n : ℕ) (f g : ℕ → ℕ) → ((i : ℕ) → i < n → f i ≡ g i) → tab n f ≡ tab n g
+unfolding tab
+tab-same zero f g e = refl
+tab-same (suc n) f g e = ap₂ (λ x l. x ∷ l) (e zero (omega arith)) (tab-same n (λ i. f (suc i)) (λ i. g (suc i)) (λ i h. e (suc i) (suc-le-suc h)))

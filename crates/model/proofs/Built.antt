@@ -8,6 +8,7 @@ use Prim.Native.Nat.{ℕ, _*_, _/_, _%_, _≤_, _<_}
 use native.Mathlib.Nat.{le-trans}
 use native.Mathlib.Omega.{arith}
 use lib.Dec.{eqb}
+use lib.ListN.{length}
 use Rattle.model.specs.Below.{any}
 use Rattle.model.specs.Matrix.{Cells, cellAt, cell, Full}
 use Rattle.model.specs.Alike.{Alike, SameRows, alike?}
@@ -41,6 +42,14 @@ module _ (n k : ℕ) (M : Cells) where
   pub built-few : built n k M .domains ≤ n
   unfolding built
   built-few = classes-le n (alike? n k M)
+
+  pub built-entities : length (built n k M .assignment) ≡ n
+  unfolding built
+  built-entities = length-tab n (classOf n (alike? n k M))
+
+  pub built-size : length (built n k M .table) ≡ built n k M .domains * k * built n k M .domains
+  unfolding built tableOf
+  built-size = length-tab _ _
 
   -- the domains are numbered in order of their smallest members
   pub built-rises : (u v : ℕ) → u < n → v < n → smallest n (alike? n k M) u < smallest n (alike? n k M) v
@@ -138,9 +147,9 @@ module _ (n k : ℕ) (M : Cells) where
     pub built-valid : Valid n k (built n k M)
     unfolding built tableOf Full
     built-valid = record {
-      entities = length-tab n (classOf n e);
+      entities = built-entities;
       below = built-below;
-      size = length-tab (d * k * d) f;
+      size = built-size;
       cells = λ i h.
           let h′ : i < d * k * d = rw (length-tab (d * k * d) f) at h in
           let s = place d k d i h′ in

@@ -43,6 +43,9 @@ module _ (n : ℕ) (e : ℕ → ℕ → Bool) (E : Tests n e) where
       let s = smallest-below v l in
       smallest-le u (smallest n e v) h s (E .transitive u v (smallest n e v) h l s t (smallest-in v l))
 
+  pub smallest-under : (u : ℕ) → u < n → smallest n e u ≤ u
+  smallest-under u h = smallest-le u u h h (E .reflexive u h)
+
   pub smallest-same : (u v : ℕ) → u < n → v < n → T (e u v) → smallest n e u ≡ smallest n e v
   smallest-same u v h l t = le-antisymm (smallest-less u v h l t) (smallest-less v u l h (E .symmetric u v h l t))
 
@@ -90,7 +93,7 @@ module _ (n : ℕ) (e : ℕ → ℕ → Bool) (E : Tests n e) where
       (λ i l t.
       let m = lower i l in
       let q = smallest-same i u m h (class-apart i u m h (eqb→eq (classOf n e i) (classOf n e u) t)) in
-      omega (arith, smallest-le i i m m (E .reflexive i m)))
+      omega (arith, smallest-under i m))
     where
       lower : (i : ℕ) → i < smallest n e u → i < n
       lower i l = omega (arith, smallest-below u h)

@@ -36,7 +36,7 @@ count-le (suc n) p = go (decide (p n)) (count-le n p)
     go (inl t) h = omega (arith, count-true n p t)
     go (inr f) h = omega (arith, count-false n p f)
 
-count-mono : (p : ℕ → Bool) (i j : ℕ) → i ≤ j → count i p ≤ count j p
+pub count-mono : (p : ℕ → Bool) (i j : ℕ) → i ≤ j → count i p ≤ count j p
 count-mono p i zero h = omega (arith, ap (λ x. count x p) (le-zero i h))
   where
     le-zero : (i : ℕ) → i ≤ zero → i ≡ zero

@@ -1,16 +1,17 @@
 -- What a list of rules finds, group by group: where the first group applies it decides, and else the later ones do.
 -- Assumes nothing.
-use mathlib.Core.Path.{_≡_, refl, _∙_, subst}
+use mathlib.Core.Path.{_≡_, refl, sym, ap, _∙_, subst}
 use mathlib.Core.Bool.{Bool, true, false, cond}
 use mathlib.Core.List.{List, [], _∷_, _++_}
 use Prim.Native.Nat.{ℕ}
+use lib.ListN.{length, drop}
 use native.Mathlib.Omega.{arith}
 use borrow.Author.Needs.{needs}
 use borrow.Author.Tests.{lt-ltb, le-ltb, le-leb, lt-leb, eq-eqb, ne-eqb}
 use Rattle.model.specs.declared.Refusal.{Refusal}
 use Rattle.model.specs.declared.Checked.{Checked}
 use Rattle.model.specs.declared.Checked.the-variants.{Fine, Bad}
-use Rattle.model.specs.Refusal.{Rule, checked, values, refused}
+use Rattle.model.specs.Refusal.{Rule, checked, values, refused, tell, held}
 
 -- what turns a test of the code into the value of a rule's test
 pub ruleset tests = (needs, lt-ltb, le-ltb, le-leb, lt-leb, eq-eqb, ne-eqb)
@@ -48,6 +49,39 @@ group-bad (s ∷ rs) qs r e = go (s .applies) (λ f. group-bad rs qs r f) e
         → cond b (Bad (s .gives)) (checked rs) ≡ Bad r → cond b (Bad (s .gives)) (checked (rs ++ qs)) ≡ Bad r
     go true ih f = f
     go false ih f = ih f
+
+-- both find nothing where their join finds nothing
+pub groups-fine : (rs qs : List Rule) → checked (rs ++ qs) ≡ Fine → (checked rs ≡ Fine) × (checked qs ≡ Fine)
+groups-fine [] qs e = (refl, e)
+groups-fine (r ∷ rs) qs e =
+    let f = checked-fine (r .applies) (r .gives) (checked (rs ++ qs)) e in
+    let g = groups-fine rs qs (f .1) in
+    (checked-passes (r .applies) (r .gives) (checked rs) (f .0) ∙ g .0, g .1)
+
+-- ---- what an answer tells, and what a buffer holds, once it is known what the rules find
+
+module _ (c : Checked) (r : Refusal) (e : c ≡ Bad r) where
+  pub tell-bad : (vs : List ℕ) → refused r ≡ tell c vs
+  tell-bad vs = rw e
+
+  pub held-bad : (new old : List ℕ) → old ≡ held c new old
+  held-bad new old = rw e
+
+module _ (c : Checked) (e : c ≡ Fine) where
+  pub tell-fine : (vs : List ℕ) → values vs ≡ tell c vs
+  tell-fine vs = rw e
+
+  pub held-fine : (new old : List ℕ) (size : ℕ) → length new ≡ size → new ++ drop size old ≡ held c new old
+  held-fine new old size q = rw (e, q)
+
+-- and what is told shows what the rules found
+pub told-fine : (c : Checked) (vs ws : List ℕ) → values vs ≡ tell c ws → (c ≡ Fine) × (vs ≡ ws)
+told-fine Fine vs ws e = (refl, cc)
+told-fine (Bad r) vs ws e = absurd (values-refused vs r e)
+
+pub told-bad : (c : Checked) (r : Refusal) (ws : List ℕ) → refused r ≡ tell c ws → c ≡ Bad r
+told-bad Fine r ws e = absurd (values-refused ws r (sym e))
+told-bad (Bad s) r ws e = let q : s ≡ r = cc in ap Bad q
 
 -- ---- what every refusal of a list has
 

@@ -1,11 +1,15 @@
 pub mod Tests
 pub mod Below
+pub mod Loops
+pub mod Slices
 pub mod Count
 pub mod Places
 pub mod Classes
+pub mod Numbering
 pub mod Alike
 pub mod Shared
 pub mod Built
 pub mod Fillings
+pub mod Clashes
 pub mod Groups
 pub mod Rules

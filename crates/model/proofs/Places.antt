@@ -1,6 +1,6 @@
 -- Where a cell stands: inside the list, no step of computing its place is large, and every place is one cell's.
 -- Assumes nothing.
-use mathlib.Core.Path.{_≡_, sym, _∙_}
+use mathlib.Core.Path.{_≡_, sym, ap, _∙_}
 use mathlib.Core.Logic.{_⊎_, inl, inr}
 use Prim.Native.Nat.{ℕ, zero, _+_, _*_, _/_, _%_, _≤_, _<_}
 use native.Mathlib.Nat.{mul-le-mul, div-add-mod', mod-lt, div-lt-iff-lt-mul, mul-zero, eq-zero-or-pos}
@@ -36,6 +36,22 @@ steps {x} {k} {y} {u} {a} {v} hx hk hy h b l =
     let inside : cellAt k y u a v < x * k * y = cell-inside h b l in
     record { sender = omega (arith, r .rows); row = omega (arith, r .rows); start = omega (arith, r .cells); place = omega (arith, r .cells); inside = inside }
 
+-- place i among x lines of y: its line, and where it stands there
+pub record Spot (x y i : ℕ) : Type 0 where
+  pub line : i / y < x
+  pub rest : i % y < y
+  pub is : i ≡ i / y * y + i % y
+
+pub spot : (x y i : ℕ) → i < x * y → Spot x y i
+spot x y i h = record { line = div-lt-iff-lt-mul some .1 h; rest = mod-lt i some; is = sym (div-add-mod' i y) }
+  where
+    some : zero < y
+    some = go (eq-zero-or-pos y)
+      where
+        go : (y ≡ zero) ⊎ (zero < y) → zero < y
+        go (inl e) = absurd (omega (arith, rw (e, mul-zero) at h))
+        go (inr l) = l
+
 -- the cell that stands at i
 pub record Place (x k y i : ℕ) : Type 0 where
   pub sender : i / y / k < x
@@ -44,29 +60,10 @@ pub record Place (x k y i : ℕ) : Type 0 where
   pub is : i ≡ cellAt k y (i / y / k) (i / y % k) (i % y)
 
 pub place : (x k y i : ℕ) → i < x * k * y → Place x k y i
-place x k y i h = record {
-  sender = div-lt-iff-lt-mul k-pos .1 up;
-  right = mod-lt (i / y) k-pos;
-  receiver = mod-lt i y-pos;
-  is = sym (rw (div-add-mod' (i / y) k) (div-add-mod' i y));
-}
-  where
-    y-pos : zero < y
-    y-pos = go (eq-zero-or-pos y)
-      where
-        go : (y ≡ zero) ⊎ (zero < y) → zero < y
-        go (inl e) = absurd (omega (arith, rw (e, mul-zero) at h))
-        go (inr l) = l
-
-    up : i / y < x * k
-    up = div-lt-iff-lt-mul y-pos .1 h
-
-    k-pos : zero < k
-    k-pos = go (eq-zero-or-pos k)
-      where
-        go : (k ≡ zero) ⊎ (zero < k) → zero < k
-        go (inl e) = absurd (omega (arith, rw (e, mul-zero) at up))
-        go (inr l) = l
+place x k y i h =
+    let s = spot (x * k) y i h in
+    let t = spot x k (i / y) (s .line) in
+    record { sender = t .line; right = t .rest; receiver = s .rest; is = s .is ∙ ap (λ z. z * y + i % y) (t .is) }
 
 -- a cell's place gives the cell back
 pub record Parts (k y u a v : ℕ) : Type 0 where

@@ -2,7 +2,7 @@
 use mathlib.Core.Path.{_≡_, refl, sym, ap, _∙_, subst}
 use mathlib.Core.Logic.{_⊎_, inl, inr}
 use mathlib.Core.Bool.{Bool, true, false, not, _||_}
-use mathlib.Core.List.{List, [], _∷_}
+use mathlib.Core.List.{List, [], _∷_, _++_}
 use Prim.Native.Nat.{ℕ, _*_, _≤_, _<_}
 use native.Mathlib.Omega.{arith}
 use borrow.Author.Tests.{ltb-false, leb-false, eqb-true, eqb-false, not-false, lt-ltb, le-ltb, lt-leb, eq-eqb, ne-eqb}
@@ -11,12 +11,14 @@ use lib.ListN.{length, getD}
 use Rattle.model.specs.declared.Refusal.{Refusal}
 use Rattle.model.specs.declared.Checked.the-variants.{Fine, Bad}
 use Rattle.model.specs.Below.{any, first}
+use Rattle.model.specs.Matrix.{cellAt, cell, Laid, Full}
 use Rattle.model.specs.Refusal.{Rule, checked, refusal, cellRefusal}
 use Rattle.model.specs.Rules.{lowest, lowestRule, lengthRule, listRules, sizeRules, matrixRules, fullRules, assignmentRules}
-use Rattle.model.specs.Rules.{tableRules, requestRules, pairRules, roomRules}
+use Rattle.model.specs.Rules.{wholeRules, tableRules, requestRules, pairRules, roomRules}
 use Rattle.model.proofs.Tests.{same-test, eqb-of, decide, true-of, false-of}
 use Rattle.model.proofs.Below.{first-of, first-none, first-same, any-at, any-of}
-use Rattle.model.proofs.Groups.{checked-fine, checked-applies, checked-passes}
+use Rattle.model.proofs.Places.{cell-inside}
+use Rattle.model.proofs.Groups.{checked-fine, checked-applies, checked-passes, group-fine, groups-fine}
 
 -- ---- sizes
 
@@ -169,6 +171,64 @@ full-fine n k m F e = record {
   below = λ i h. let unlike = eqb-false _ (getD m i 0) (lowest-clear _ m _ e i h) in omega (arith, F .below i h, unlike);
 }
 
+-- ---- and the other way round: what is in order is passed
+
+lowest-pass : (p : ℕ → Bool) (l : List ℕ) (at : ℕ → Refusal) → ((i : ℕ) → i < length l → p (getD l i 0) ≡ false)
+    → checked (lowestRule p l at ∷ []) ≡ Fine
+unfolding lowestRule
+lowest-pass p l at f = checked-passes (any (length l) (λ i. p (getD l i 0))) (at (lowest p l)) Fine
+    (false-of (any (length l) (λ i. p (getD l i 0))) (λ t. let r = any-of (length l) (λ i. p (getD l i 0)) t in subst T (f (r .0) (r .1)) (r .2)))
+
+list-pass : (number want b : ℕ) (l : List ℕ) (at : ℕ → Refusal) → Filled want b l → checked (listRules number want (leb b) l at) ≡ Fine
+list-pass number want b l at F =
+    length-pass number (length l) want (lowestRule (leb b) l at ∷ []) (F .long) ∙ lowest-pass (leb b) l at (λ i h. lt-leb b (getD l i 0) (F .below i h))
+
+pub matrix-pass : (n k : ℕ) (m : List ℕ) → Filled (n * k * n) 3 m → checked (matrixRules n k m) ≡ Fine
+unfolding matrixRules
+matrix-pass n k m F = list-pass 2 (n * k * n) 3 m (cellRefusal 3 k n) F
+
+pub assignment-pass : (n d : ℕ) (s : List ℕ) → Filled n d s → checked (assignmentRules n d s) ≡ Fine
+unfolding assignmentRules
+assignment-pass n d s F = list-pass 5 n d s (refusal 6) F
+
+pub table-pass : (k d : ℕ) (t : List ℕ) → Filled (d * k * d) 2 t → checked (tableRules k d t) ≡ Fine
+unfolding tableRules
+table-pass k d t F = list-pass 7 (d * k * d) 2 t (cellRefusal 8 k d) F
+
+full-pass : (n k : ℕ) (m : List ℕ) → Filled (n * k * n) 2 m → checked (fullRules n k m) ≡ Fine
+unfolding fullRules
+full-pass n k m F = lowest-pass (eqb 2) m (cellRefusal 4 k n) (λ i h. ne-eqb 2 (getD m i 0) (λ e. omega (arith, F .below i h)))
+
+-- ---- a full matrix within the limits
+
+pub record Whole (n k : ℕ) (m : List ℕ) : Type 0 where
+  pub sized : Sized n k 0
+  pub cells : Filled (n * k * n) 2 m
+
+pub whole-fine : (n k : ℕ) (m : List ℕ) → checked (wholeRules n k m) ≡ Fine → Whole n k m
+unfolding wholeRules
+whole-fine n k m e =
+    let (f, g) = groups-fine (sizeRules n k 0) (matrixRules n k m ++ fullRules n k m) e in
+    let (h, l) = groups-fine (matrixRules n k m) (fullRules n k m) g in
+    record { sized = sizes-fine n k 0 f; cells = full-fine n k m (matrix-fine n k m h) l }
+
+pub whole-pass : (n k : ℕ) (m : List ℕ) → Whole n k m → checked (wholeRules n k m) ≡ Fine
+unfolding wholeRules
+whole-pass n k m w =
+    let z = w .sized in
+    let F = w .cells in
+    group-fine (sizeRules n k 0) (matrixRules n k m ++ fullRules n k m) (sizes-pass n k 0 (z .entities) (z .right) (z .rights) (z .domains))
+    ∙ group-fine (matrixRules n k m) (fullRules n k m) (matrix-pass n k m (record { long = F .long; below = λ i h. omega (arith, F .below i h) }))
+    ∙ full-pass n k m F
+
+pub laid : {n k : ℕ} {m : List ℕ} → Whole n k m → Laid n k m
+laid w = record { entities = w .sized .entities; rights = w .sized .rights; size = w .cells .long }
+
+-- so no cell is unlogged
+pub whole-full : {n k : ℕ} {m : List ℕ} → Whole n k m → Full n k (cell k n m)
+unfolding Full cell
+whole-full {n} {k} {m} w u a v h b l = w .cells .below (cellAt k n u a v) (rw (w .cells .long) (cell-inside h b l))
+
 -- ---- asked numbers, room
 
 pub request-fine : (n k u a v : ℕ) → checked (requestRules n k u a v) ≡ Fine → (u < n) × (a < k) × (v < n)
@@ -189,6 +249,14 @@ pair-fine n u v e =
     let (t0, e1) = checked-fine (leb n u) (refusal 9 0) _ e in
     let (t1, e2) = checked-fine (leb n v) (refusal 9 1) _ e1 in
     (leb-false n u t0, leb-false n v t1)
+
+pub pair-pass : (n u v : ℕ) → u < n → v < n → checked (pairRules n u v) ≡ Fine
+unfolding pairRules
+pair-pass n u v h l = rw (lt-leb n u h, lt-leb n v l)
+
+pub room-pass : (number have need : ℕ) → need ≤ have → checked (roomRules number have need) ≡ Fine
+unfolding roomRules
+room-pass number have need h = rw (le-ltb have need h)
 
 pub room-fine : (number have need : ℕ) → checked (roomRules number have need) ≡ Fine → need ≤ have
 unfolding roomRules

@@ -4,5 +4,6 @@ pub mod Alike
 pub mod Classes
 pub mod Policy
 pub mod Built
+pub mod Clash
 pub mod Refusal
 pub mod Rules

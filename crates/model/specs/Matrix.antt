@@ -1,8 +1,8 @@
 -- The matrix: where a cell stands, when a matrix is full, what fills its gaps (01, "Matrix and policy"; Definition 3.1). Assumes nothing.
 use mathlib.Core.Path.{_≡_}
 use mathlib.Core.List.{List}
-use Prim.Native.Nat.{ℕ, _+_, _*_, _<_}
-use lib.ListN.{getD}
+use Prim.Native.Nat.{ℕ, _+_, _*_, _≤_, _<_}
+use lib.ListN.{length, getD}
 
 -- a value for each sender, right and receiver (Definition 4.1): 0 deny, 1 grant, 2 unlogged
 abbrev pub Cells : Type 0
@@ -15,6 +15,12 @@ cellAt k y u a v = (u * k + a) * y + v
 -- the cells of a list that is laid out so
 unfoldable pub cell : ℕ → ℕ → List ℕ → Cells
 cell k y m u a v = getD m (cellAt k y u a v) 0
+
+-- m has the cells of n entities and k rights, within the limits
+pub record Laid (n k : ℕ) (m : List ℕ) : Type 0 where
+  pub entities : n ≤ 64
+  pub rights : k ≤ 8
+  pub size : length m ≡ n * k * n
 
 -- no cell is unlogged
 unfoldable pub Full : ℕ → ℕ → Cells → Type 0

@@ -1,7 +1,8 @@
--- Refusals, their order, and what an answer tells (01, "Numbers of refusal"). Assumes nothing.
+-- Refusals, their order, what an answer tells and what a lent buffer then holds (01, "Numbers of refusal"). Assumes nothing.
 use mathlib.Core.Bool.{Bool, cond}
-use mathlib.Core.List.{List, [], _∷_}
+use mathlib.Core.List.{List, [], _∷_, _++_}
 use Prim.Native.Nat.{ℕ}
+use lib.ListN.{length, drop}
 use Rattle.model.specs.declared.Refusal.{Refusal}
 use Rattle.model.specs.declared.Checked.{Checked}
 use Rattle.model.specs.declared.Checked.the-variants.{Fine, Bad}
@@ -36,3 +37,12 @@ pub data Told : Type 0 where
 abbrev pub tell : Checked → List ℕ → Told
 tell Fine vs = values vs
 tell (Bad r) vs = refused r
+
+-- new bytes over a buffer's first ones; later bytes stay
+abbrev pub over : List ℕ → List ℕ → List ℕ
+over new old = new ++ drop (length new) old
+
+-- what a lent buffer then holds: the new bytes and its later ones, or on a refusal what it held
+abbrev pub held : Checked → List ℕ → List ℕ → List ℕ
+held Fine new old = over new old
+held (Bad r) new old = old

@@ -1,6 +1,6 @@
 -- The rows of the table of refusals (01, "Numbers of refusal"), in the groups that the calls join in their own orders. Assumes nothing.
 use mathlib.Core.Bool.{Bool, not, _||_}
-use mathlib.Core.List.{List, [], _∷_}
+use mathlib.Core.List.{List, [], _∷_, _++_}
 use Prim.Native.Nat.{ℕ, _*_}
 use lib.Dec.{eqb, leb, ltb}
 use lib.ListN.{length, getD}
@@ -35,6 +35,10 @@ matrixRules n k m = listRules 2 (n * k * n) (ltb 2) m (cellRefusal 3 k n)
 -- 4: an unlogged cell where a full matrix is needed
 unfoldable pub fullRules : ℕ → ℕ → List ℕ → List Rule
 fullRules n k m = lowestRule (eqb 2) m (cellRefusal 4 k n) ∷ []
+
+-- 1 to 4: a full matrix within the limits
+unfoldable pub wholeRules : ℕ → ℕ → List ℕ → List Rule
+wholeRules n k m = sizeRules n k 0 ++ (matrixRules n k m ++ fullRules n k m)
 
 -- 5: the assignment's length; 6: a domain number not below d
 unfoldable pub assignmentRules : ℕ → ℕ → List ℕ → List Rule

@@ -9,11 +9,11 @@ use native.Mathlib.Decide.{decLt}
 use native.Mathlib.Numerals.{add-one}
 use native.Mathlib.Omega.{arith}
 use lib.Dec.{T, leb, leb→le}
-use lib.ListN.{length, getD, take, drop, length-drop}
-use lib.Seq.{length-take-le, getD-take, getD-drop}
+use lib.ListN.{length, getD}
 use Rattle.model.specs.Below.{any, first}
 use Rattle.model.specs.Rules.{lowest}
 use Rattle.model.proofs.Tests.{false-of}
+use Rattle.model.proofs.Slices.{part, part-length, part-at}
 use Rattle.model.proofs.Below.{first-is, first-of, first-none, first-before, first-le, any-at, any-of}
 
 abbrev pub at : (ℕ → Bool) → List ℕ → ℕ → Bool
@@ -45,45 +45,35 @@ pub lowest-end : (p : ℕ → Bool) (s : List ℕ) (i : ℕ) → i ≡ length s 
 unfolding lowest
 lowest-end p s i q e = q ∙ sym (first-none (length s) (at p s) (λ j h. passed-not (at p s) i e j (omega arith)))
 
--- ---- a block: the bytes from i to e
-
-abbrev pub block : List ℕ → ℕ → ℕ → List ℕ
-block s i e = take (e - i) (drop i s)
-
-module _ (s : List ℕ) (i e : ℕ) (h : i ≤ e) (l : e ≤ length s) where
-  pub block-length : length (block s i e) ≡ e - i
-  block-length = length-take-le (e - i) (drop i s) (rw length-drop (omega arith))
-
-  block-at : (j : ℕ) → j < e - i → getD (block s i e) j 0 ≡ getD s (i + j) 0
-  block-at j b = getD-take (e - i) (drop i s) j 0 b ∙ getD-drop i s j 0
+-- ---- a block: the part from i up to e
 
 module _ (p : ℕ → Bool) (s : List ℕ) (i e : ℕ) (h : i ≤ e) (l : e ≤ length s) (none : any i (at p s) ≡ false) where
   -- no byte before i passes, and none of the block before its place r: so none before i + r
-  before : (r : ℕ) → r ≤ e - i → ((j : ℕ) → j < r → ¬ T (p (getD (block s i e) j 0))) → (j : ℕ) → j < i + r → ¬ T (p (getD s j 0))
+  before : (r : ℕ) → r ≤ e - i → ((j : ℕ) → j < r → ¬ T (p (getD (part s i e) j 0))) → (j : ℕ) → j < i + r → ¬ T (p (getD s j 0))
   before r b f j m t = go (decLt j i)
     where
       go : Dec (j < i) → ⊥
       go (yes c) = passed-not (at p s) i none j c t
       go (no c) =
           let back : i + (j - i) ≡ j = omega arith in
-          f (j - i) (omega arith) (subst (λ x. T (p x)) (sym (block-at s i e h l (j - i) (omega arith) ∙ ap (λ x. getD s x 0) back)) t)
+          f (j - i) (omega arith) (subst (λ x. T (p x)) (sym (part-at s i e h l (j - i) (omega arith) ∙ ap (λ x. getD s x 0) back)) t)
 
-  pub block-none : any (length (block s i e)) (at p (block s i e)) ≡ false → any e (at p s) ≡ false
+  pub block-none : any (length (part s i e)) (at p (part s i e)) ≡ false → any e (at p s) ≡ false
   block-none g = false-of (any e (at p s)) (λ t.
       let r = any-of e (at p s) t in
-      before (e - i) (le-refl (e - i)) (λ j m. passed-not (at p (block s i e)) (length (block s i e)) g j (rw (block-length s i e h l) m))
+      before (e - i) (le-refl (e - i)) (λ j m. passed-not (at p (part s i e)) (length (part s i e)) g j (rw (part-length s i e h l) m))
       (r .0) (omega (arith, r .1)) (r .2))
 
-  pub block-some : any (length (block s i e)) (at p (block s i e)) ≡ true → i + lowest p (block s i e) ≡ lowest p s
+  pub block-some : any (length (part s i e)) (at p (part s i e)) ≡ true → i + lowest p (part s i e) ≡ lowest p s
   unfolding lowest
   block-some g =
-      let size = length (block s i e) in
-      let q = at p (block s i e) in
+      let size = length (part s i e) in
+      let q = at p (part s i e) in
       let r = any-of size q (rw g tt) in
       let w = first-of size q (r .0) (r .1) (r .2) in
-      let o : first size q < e - i = omega (arith, block-length s i e h l) in
+      let o : first size q < e - i = omega (arith, part-length s i e h l) in
       sym (first-is (length s) (at p s) (i + first size q) (omega arith)
-      (subst (λ x. T (p x)) (block-at s i e h l (first size q) o) (w .passes)) (before (first size q) (omega arith) (first-before size q)))
+      (subst (λ x. T (p x)) (part-at s i e h l (first size q) o) (w .passes)) (before (first size q) (omega arith) (first-before size q)))
 
 -- ---- bounds
 

@@ -10,7 +10,7 @@ ghost use Rattle.model.specs.declared.Checked.the-variants.{Fine};
 ghost use Rattle.model.specs.Below.{any};
 ghost use Rattle.model.specs.Matrix.{cellAt};
 ghost use Rattle.model.specs.Refusal.{refusal, cellRefusal, checked};
-ghost use Rattle.model.specs.Rules.{lowest, listRules, sizeRules, matrixRules, fullRules, assignmentRules, tableRules, requestRules, pairRules, roomRules};
+ghost use Rattle.model.specs.Rules.{lowest, listRules, sizeRules, matrixRules, fullRules, wholeRules, assignmentRules, tableRules, requestRules, pairRules, roomRules};
 
 // A refusal that names no cell.
 pub fn refuse(number: usize, place: usize) -> Refusal
@@ -157,6 +157,21 @@ pub fn full_fits(n: usize, k: usize, m: &[u8]) -> Checked
         return Checked::Bad(refuse_cell(4, k, n, i));
     }
     Checked::Fine
+}
+
+// 1 to 4: a full matrix within the limits.
+pub fn whole_fits(n: usize, k: usize, m: &[u8]) -> Checked
+    ensures { λ r. ⌜ r ≡ checked (wholeRules n k (now (m .entry))) ⌝ }
+{
+    let sized = sizes(n, k, 0);
+    if let Checked::Bad(r) = sized {
+        return Checked::Bad(r);
+    }
+    let matrix = matrix_fits(n, k, m);
+    if let Checked::Bad(r) = matrix {
+        return Checked::Bad(r);
+    }
+    full_fits(n, k, m)
 }
 
 // 5: the assignment's length; 6: a domain number not below d.

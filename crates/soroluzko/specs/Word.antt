@@ -5,9 +5,7 @@ use mathlib.Core.List.{List, [], _∷_}
 use Prim.Native.Nat.{ℕ, _+_, _*_, _/_, _%_, _^_, _<_}
 use lib.Dec.{eqb}
 use Rattle.model.specs.declared.Refusal.{Refusal}
-use Rattle.model.specs.Policy.{Policy}
 use Rattle.model.specs.Refusal.{Told, values, refused}
-use Rattle.ask.specs.Ask.{askTold}
 
 -- values side by side in fields of so many bits, the first one lowest; and taken out again
 unfoldable pub fields : List ℕ → List ℕ → ℕ
@@ -19,12 +17,9 @@ unfoldable pub unfields : List ℕ → ℕ → List ℕ
 unfields [] y = []
 unfields (w ∷ ws) y = y % 2 ^ w ∷ unfields ws (y / 2 ^ w)
 
--- the bits of a refusal's place, and of the whole word; the others are 0
+-- the bits of a refusal's place
 abbrev pub placeBits : ℕ
 placeBits = 24
-
-abbrev pub wordBits : ℕ
-wordBits = 32
 
 -- the word of what is told, and what a word tells
 unfoldable pub word : List ℕ → Told → ℕ
@@ -40,11 +35,6 @@ pub record Carried (r : Refusal) : Type 0 where
   pub number : r .number < 256
   pub place : r .place < 2 ^ placeBits
 
--- the ask's word: bit 8 is the grant
-abbrev pub askWord : ℕ → ℕ → ℕ → ℕ → ℕ → Policy → ℕ
-askWord n k u a v P = word (1 ∷ []) (askTold n k u a v P)
-
--- nothing is lost: the word tells what the ask told, and has no more bits
-abbrev pub AskKept : Type 0
-AskKept = (n k u a v : ℕ) (P : Policy)
-    → (unword (1 ∷ []) (askWord n k u a v P) ≡ askTold n k u a v P) × (askWord n k u a v P < 2 ^ wordBits)
+-- nothing is lost: the word tells what was told, and has no more bits
+abbrev pub Kept : List ℕ → ℕ → Told → Type 0
+Kept ws bits t = (unword ws (word ws t) ≡ t) × (word ws t < 2 ^ bits)

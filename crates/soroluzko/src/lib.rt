@@ -1,11 +1,17 @@
 // The boundary to C: each call over plain numbers and byte slices, answered by one word (include/soroluzko.h).
+use alike::Compared;
 use ask::Asked;
+use build::Built;
+use judge::Judged;
 use model::Refusal;
 ghost use mathlib.Core.Path.{_≡_};
 ghost use mathlib.Core.List.{[]};
+ghost use lib.ListN.{length};
 ghost use Rattle.model.specs.Policy.{policy};
 ghost use Rattle.model.specs.Refusal.{refused};
-ghost use Rattle.soroluzko.specs.Word.{word, Carried, askWord};
+ghost use Rattle.build.specs.Build.{assignmentLeft, tableLeft};
+ghost use Rattle.soroluzko.specs.Word.{word, Carried};
+ghost use Rattle.soroluzko.specs.Calls.{askWord, alikeWord, buildWord, judgeWord};
 
 // The word of a refusal.
 fn refusal_word(r: Refusal) -> u64
@@ -36,5 +42,58 @@ pub extern "C" fn soroluzko_ask(
         Asked::Grant => 256,
         Asked::Deny => 0,
         Asked::Refused(r) => refusal_word(r),
+    }
+}
+
+// Alike, for C: `alike::alike` with its answer as a word.
+#[no_mangle]
+pub extern "C" fn soroluzko_alike(n: usize, k: usize, u: usize, v: usize, matrix: &[u8]) -> u64
+    ensures { λ w. ⌜ w ≡ alikeWord n k u v (now (matrix .entry)) ⌝ }
+{
+    let compared = alike::alike(n, k, u, v, matrix);
+    match compared {
+        Compared::Yes => 256,
+        Compared::No => 0,
+        Compared::Refused(r) => refusal_word(r),
+    }
+}
+
+// The build, for C: `build::build` with its answer as a word.
+#[no_mangle]
+pub extern "C" fn soroluzko_build(
+    n: usize,
+    k: usize,
+    matrix: &[u8],
+    assignment: &mut [u8],
+    table: &mut [u8],
+) -> u64
+    ensures { λ w. ⌜ w ≡ buildWord n k (now (matrix .entry)) (length (now (assignment .entry))) (length (now (table .entry))) ⌝ }
+    ensures { λ _. ⌜ now (assignment .exit) ≡ assignmentLeft n k (now (matrix .entry)) (now (assignment .entry)) (now (table .entry)) ⌝ }
+    ensures { λ _. ⌜ now (table .exit) ≡ tableLeft n k (now (matrix .entry)) (now (assignment .entry)) (now (table .entry)) ⌝ }
+{
+    let built = build::build(n, k, matrix, assignment, table);
+    match built {
+        Built::Domains(d) => 256 * d as u64,
+        Built::Refused(r) => refusal_word(r),
+    }
+}
+
+// The judge, for C: `judge::judge` with its answer as a word.
+#[no_mangle]
+pub extern "C" fn soroluzko_judge(
+    n: usize,
+    k: usize,
+    d: usize,
+    matrix: &[u8],
+    assignment: &[u8],
+    table: &[u8],
+) -> u64
+    ensures { λ w. ⌜ w ≡ judgeWord n k (now (matrix .entry)) (policy d (now (assignment .entry)) (now (table .entry))) ⌝ }
+{
+    let judged = judge::judge(n, k, d, matrix, assignment, table);
+    match judged {
+        Judged::Enforces(domains) => 65536 * domains as u64,
+        Judged::Conflict { cell, logged } => 256 + 65536 * cell as u64 + 4294967296 * logged as u64,
+        Judged::Refused(r) => refusal_word(r),
     }
 }

@@ -9,7 +9,8 @@ use lib.Dec.{leb}
 use lib.ListN.{length}
 use Rattle.model.specs.Below.{any}
 use Rattle.model.specs.Rules.{lowest}
-use Rattle.scan.proofs.Lowest.{at, passed-none, block, block-length, block-none, block-some, lowest-end, lowest-le}
+use Rattle.model.proofs.Slices.{part, part-length}
+use Rattle.scan.proofs.Lowest.{at, passed-none, block-none, block-some, lowest-end, lowest-le}
 use Rattle.scan.proofs.lowest_by_blocks.Statement.{statement}
 use Rattle.scan.proofs.lowest_by_blocks.Tie as tie
 
@@ -67,8 +68,8 @@ add-result c =
     let args = c .before .before .before .before .before .before .before .before .before .args in
     let i = c .before .before .before .before .before .before .before .loop .i in
     let e = c .before .before .before .before .before .block-end .result in
-    let size = block-length (args .s .now) i e (omega arith) (omega arith) in
-    omega (arith, lowest-le (leb (args .b)) (block (args .s .now) i e), c .lowest-in .ensures)
+    let size = part-length (args .s .now) i e (omega arith) (omega arith) in
+    omega (arith, lowest-le (leb (args .b)) (part (args .s .now) i e), c .lowest-in .ensures)
 
 returns : tie.Need-returns Inv-loop μ-loop
 returns c = found c

@@ -1,11 +1,11 @@
--- `soroluzko::soroluzko_ask` meets its contract: each case of the answer has its word, and a word can carry every refusal (`Ask`).
+-- `soroluzko::soroluzko_ask` meets its contract: each case of the answer has its word, and a word can carry every refusal (`Calls`).
 -- Assumes nothing.
 use mathlib.Core.Path.{sym, ap, _∙_, subst}
 use mathlib.Core.List.{[], _∷_}
 use Rattle.ask.specs.Ask.{askedTold}
 use Rattle.soroluzko.specs.Word.{fields, word}
 use Rattle.soroluzko.proofs.Word.{Held}
-use Rattle.soroluzko.proofs.Ask.{ask-held}
+use Rattle.soroluzko.proofs.Calls.{ask-held}
 use borrow.Author.Needs.{needs}
 use Rattle.soroluzko.proofs.soroluzko_ask.Statement.{statement}
 use Rattle.soroluzko.proofs.soroluzko_ask.Tie as tie

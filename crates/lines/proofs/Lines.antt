@@ -1,0 +1,168 @@
+-- Rows and columns, compared from end to end, are the test of alike: a row's place is one right and one receiver, and a line is one
+-- sender and one right. Assumes nothing.
+use mathlib.Core.Path.{_≡_, refl, sym, ap, _∙_, subst}
+use mathlib.Core.Bool.{Bool, true, false, _&&_}
+use mathlib.Core.List.{List}
+use Prim.Native.Nat.{ℕ, zero, suc, _+_, _-_, _*_, _/_, _%_, _≤_, _<_}
+use native.Mathlib.Nat.{add-mul, suc-mul, mul-assoc, add-assoc, mul-le-mul, mul-le-mul-right}
+use native.Mathlib.Decide.{ℕ-discrete, decLt}
+use native.Mathlib.Numerals.{add-one}
+use native.Mathlib.Omega.{arith}
+use borrow.Author.Tests.{eq-eqb, ne-eqb}
+use lib.Arith.{digits-lt}
+use lib.Bits.{bitOr, bitXor, or-add-and, xor-add-and, and-le-l, and-le-r, xor-self}
+use lib.Dec.{T, eqb, eqb→eq}
+use lib.ListN.{length, getD}
+use Rattle.model.specs.Below.{all}
+use Rattle.model.specs.Matrix.{cell, Laid}
+use Rattle.model.specs.Alike.{SameRows, rows?, flip, alike?}
+use Rattle.model.proofs.Tests.{same-test, true-of, false-of, eqb-of}
+use Rattle.model.proofs.Below.{all-at, all-of}
+use Rattle.model.proofs.Loops.{all-none, all-next, all-fails}
+use Rattle.model.proofs.Slices.{part, part-length, part-at}
+use Rattle.model.proofs.Places.{small, spot}
+use Rattle.model.proofs.Alike.{rows-sound, rows-complete}
+use Rattle.lines.specs.Lines.{same?, columns?}
+
+-- ---- with no branch: `apart` is 0 exactly while all are the same
+
+or-xor : (a p q : ℕ) → eqb (bitOr a (bitXor p q)) 0 ≡ (eqb p q && eqb a 0)
+or-xor a p q = go (ℕ-discrete p q) (ℕ-discrete a 0)
+  where
+    go : Dec (p ≡ q) → Dec (a ≡ 0) → eqb (bitOr a (bitXor p q)) 0 ≡ (eqb p q && eqb a 0)
+    go (yes e) (yes f) = rw (e, f, xor-self q, eq-eqb q q refl) refl
+    go (no e) d = rw (ne-eqb p q e) (ne-eqb (bitOr a (bitXor p q)) 0 (λ z. e (omega (
+      arith,
+      or-add-and a (bitXor p q),
+      and-le-l a (bitXor p q),
+      and-le-r a (bitXor p q),
+      xor-add-and p q,
+      and-le-l p q,
+      and-le-r p q,
+    ))))
+    go (yes e) (no f) = rw (eq-eqb p q e, ne-eqb a 0 f) (ne-eqb (bitOr a (bitXor p q)) 0 (λ z. f (omega (
+      arith,
+      or-add-and a (bitXor p q),
+      and-le-l a (bitXor p q),
+      and-le-r a (bitXor p q),
+    ))))
+
+pub same-none : (r s : List ℕ) → same? 0 r s ≡ true
+unfolding same?
+same-none r s = all-none (λ i. eqb (getD r i 0) (getD s i 0))
+
+pub same-next : (r s : List ℕ) (i a : ℕ) → eqb a 0 ≡ same? i r s → eqb (bitOr a (bitXor (getD r i 0) (getD s i 0))) 0 ≡ same? (i + 1) r s
+unfolding same? all
+same-next r s i a e = or-xor a (getD r i 0) (getD s i 0) ∙ rw (e, add-one i)
+
+-- what differs early differs
+pub same-fails : (r s : List ℕ) (i e : ℕ) → i ≤ e → same? i r s ≡ false → false ≡ same? e r s
+unfolding same?
+same-fails r s i e h f = sym (false-of (all e at) (λ t. subst T f (all-of i at (λ j l. all-at e at t j (omega arith)))))
+  where
+    at : ℕ → Bool
+    at j = eqb (getD r j 0) (getD s j 0)
+
+-- ---- columns, line by line
+
+pub columns-next : (n : ℕ) (m : List ℕ) (u v i : ℕ) → columns? i n m u v ≡ true → getD m (i * n + u) 0 ≡ getD m (i * n + v) 0
+    → columns? (i + 1) n m u v ≡ true
+unfolding columns?
+columns-next n m u v i e f = all-next i (λ j. eqb (getD m (j * n + u) 0) (getD m (j * n + v) 0)) e (eq-eqb (getD m (i * n + u) 0) (getD m (i * n + v) 0) f)
+
+pub columns-none : (n : ℕ) (m : List ℕ) (u v : ℕ) → columns? 0 n m u v ≡ true
+unfolding columns?
+columns-none n m u v = all-none (λ j. eqb (getD m (j * n + u) 0) (getD m (j * n + v) 0))
+
+pub columns-differ : (lines n : ℕ) (m : List ℕ) (u v i : ℕ) → i < lines → ¬ (getD m (i * n + u) 0 ≡ getD m (i * n + v) 0)
+    → false ≡ columns? lines n m u v
+unfolding columns?
+columns-differ lines n m u v i h f =
+    sym (all-fails lines i (λ j. eqb (getD m (j * n + u) 0) (getD m (j * n + v) 0)) h (ne-eqb (getD m (i * n + u) 0) (getD m (i * n + v) 0) f))
+
+-- ---- rows and columns of a matrix
+
+module _ (n k : ℕ) (m : List ℕ) (L : Laid n k m) where
+  -- a sender's row, where it stands in the matrix
+  abbrev row : ℕ → List ℕ
+  row x = part m (x * (k * n)) (x * (k * n) + k * n)
+
+  row-end : (x : ℕ) → x < n → x * (k * n) + k * n ≤ length m
+  row-end x h = rw (L .size, mul-assoc) (omega (arith, suc-mul x (k * n), mul-le-mul-right (k * n) h))
+
+  row-length : (x : ℕ) → x < n → length (row x) ≡ k * n
+  row-length x h = part-length m (x * (k * n)) (x * (k * n) + k * n) (omega arith) (row-end x h) ∙ omega arith
+
+  row-cell : (x a y : ℕ) → x < n → a < k → y < n → getD (row x) (a * n + y) 0 ≡ cell k n m x a y
+  unfolding cell
+  row-cell x a y h b l =
+      let inside : a * n + y < k * n = digits-lt b l in
+      part-at m (x * (k * n)) (x * (k * n) + k * n) (omega arith) (row-end x h) (a * n + y) (omega arith)
+      ∙ ap (λ i. getD m i 0) (rw (add-mul, mul-assoc, add-assoc))
+
+  -- no step of finding a row, or a line of one sender and one right, is large
+  pub record Steps (x : ℕ) : Type 0 where
+    pub width : k * n ≤ 512
+    pub start : x * (k * n) ≤ 32768
+    pub end : x * (k * n) + k * n ≤ length m
+    pub bound : length m ≤ 32768
+
+  pub steps : (x : ℕ) → x < n → Steps x
+  steps x h =
+      let w = small (L .entities) (L .rights) (L .entities) in
+      record {
+        width = mul-le-mul (L .rights) (L .entities);
+        start = omega (arith, row-end x h, w .cells, L .size);
+        end = row-end x h;
+        bound = omega (arith, w .cells, L .size);
+      }
+
+  pub record Line (i x : ℕ) : Type 0 where
+    pub start : i * n ≤ 32768
+    pub inside : i * n + x < length m
+
+  pub line : (i x : ℕ) → i < n * k → x < n → Line i x
+  line i x h l =
+      let w = small (L .entities) (L .rights) (L .entities) in
+      let inside : i * n + x < n * k * n = digits-lt h l in
+      record { start = omega (arith, w .cells); inside = rw (L .size) inside }
+
+  module _ (u v : ℕ) (h : u < n) (l : v < n) where
+    rows-same : same? (length (row u)) (row u) (row v) ≡ rows? n k (cell k n m) u v
+    unfolding same? SameRows
+    rows-same = same-test (all (length (row u)) at) (rows? n k (cell k n m) u v)
+        (λ t. rows-complete n k (cell k n m) u v (λ a x b w.
+        let inside : a * n + x < length (row u) = rw (row-length u h) (digits-lt b w) in
+        sym (row-cell u a x h b w)
+        ∙ eqb→eq (getD (row u) (a * n + x) 0) (getD (row v) (a * n + x) 0) (all-at (length (row u)) at t (a * n + x) inside)
+        ∙ row-cell v a x l b w))
+        (λ t. all-of (length (row u)) at (λ i w.
+        let p = spot k n i (rw (row-length u h) at w) in
+        let s = rows-sound n k (cell k n m) u v t (i / n) (i % n) (p .line) (p .rest) in
+        subst (λ j. T (at j)) (sym (p .is)) (eqb-of (getD (row u) (i / n * n + i % n) 0) (getD (row v) (i / n * n + i % n) 0)
+        (row-cell u (i / n) (i % n) h (p .line) (p .rest) ∙ s ∙ sym (row-cell v (i / n) (i % n) l (p .line) (p .rest))))))
+      where
+        at : ℕ → Bool
+        at i = eqb (getD (row u) i 0) (getD (row v) i 0)
+
+    columns-same : columns? (n * k) n m u v ≡ rows? n k (flip (cell k n m)) u v
+    unfolding columns? SameRows cell
+    columns-same = same-test (all (n * k) at) (rows? n k (flip (cell k n m)) u v)
+        (λ t. rows-complete n k (flip (cell k n m)) u v (λ a x b w.
+        eqb→eq (getD m ((x * k + a) * n + u) 0) (getD m ((x * k + a) * n + v) 0) (all-at (n * k) at t (x * k + a) (digits-lt w b))))
+        (λ t. all-of (n * k) at (λ i w.
+        let p = spot n k i w in
+        let s = rows-sound n k (flip (cell k n m)) u v t (i % k) (i / k) (p .rest) (p .line) in
+        subst (λ j. T (at j)) (sym (p .is)) (eqb-of (getD m ((i / k * k + i % k) * n + u) 0) (getD m ((i / k * k + i % k) * n + v) 0) s)))
+      where
+        at : ℕ → Bool
+        at i = eqb (getD m (i * n + u) 0) (getD m (i * n + v) 0)
+
+    -- the two exits of `same`
+    pub rows-differ : same? (length (row u)) (row u) (row v) ≡ false → false ≡ alike? n k (cell k n m) u v
+    unfolding alike?
+    rows-differ e = rw (← rows-same, e)
+
+    pub rows-then-columns : same? (length (row u)) (row u) (row v) ≡ true → columns? (n * k) n m u v ≡ alike? n k (cell k n m) u v
+    unfolding alike?
+    rows-then-columns e = rw (← rows-same, e) columns-same

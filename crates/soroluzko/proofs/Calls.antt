@@ -1,0 +1,129 @@
+-- What each call tells has room in its word, so the word loses nothing; and its upper bits are 0. Assumes nothing.
+use mathlib.Core.Path.{_≡_, refl, sym, ap, _∙_, subst}
+use mathlib.Core.Bool.{Bool, true, false, cond}
+use mathlib.Core.List.{List, [], _∷_}
+use Prim.Native.Nat.{ℕ, _+_, _*_, _/_, _%_, _^_, _≤_, _<_}
+use native.Mathlib.Omega.{arith}
+use borrow.Author.Tests.{lt-ltb, le-ltb, ltb-true, ltb-false, eq-eqb, ne-eqb}
+use lib.Dec.{eqb, ltb}
+use lib.ListN.{length, getD}
+use Rattle.model.specs.declared.Refusal.{Refusal}
+use Rattle.model.specs.declared.Checked.{Checked}
+use Rattle.model.specs.declared.Checked.the-variants.{Fine, Bad}
+use Rattle.model.specs.Matrix.{cell}
+use Rattle.model.specs.Alike.{alike?}
+use Rattle.model.specs.Policy.{Policy, answer}
+use Rattle.model.specs.Refusal.{Rule, checked, Told, values, refused, tell}
+use Rattle.model.specs.Rules.{sizeRules, wholeRules, matrixRules}
+use Rattle.model.proofs.Built.{built-few}
+use Rattle.model.proofs.Groups.{Gives, gives-bad, groups-fine}
+use Rattle.model.proofs.Places.{small}
+use Rattle.model.proofs.Rules.{whole-fine, matrix-fine}
+use Rattle.ask.specs.Ask.{askRules, granted, askTold}
+use Rattle.alike.specs.Compare.{alikeRules, alikeTold}
+use Rattle.build.specs.Build.{builtFrom, buildRules, buildTold}
+use Rattle.judge.specs.Judge.{judgeRules, conflict, verdict, judgeTold}
+use Rattle.judge.proofs.Exits.{judgeable}
+use Rattle.soroluzko.specs.Word.{fields, word, unword, Carried}
+use Rattle.soroluzko.specs.Calls.{judgeFields, AskKept, AlikeKept, BuildKept, JudgeKept}
+use Rattle.soroluzko.proofs.Word.{Fit, none, more, Held, word-kept}
+use Rattle.soroluzko.proofs.Carried.{ask-carried, alike-carried, build-carried, judge-carried}
+
+-- what is told has room where the values have, and where each refusal has
+told-held : (ws : List ℕ) (rs : List Rule) (vs : List ℕ) → Gives Carried rs → (checked rs ≡ Fine → Fit ws vs) → Held ws (tell (checked rs) vs)
+told-held ws rs vs g f = go (checked rs) refl
+  where
+    go : (c : Checked) → checked rs ≡ c → Held ws (tell c vs)
+    go Fine e = f e
+    go (Bad r) e = gives-bad Carried rs g r e
+
+bit : (b : Bool) → cond b 1 0 < 2 ^ 1
+bit true = omega arith
+bit false = omega arith
+
+pub ask-held : (n k u a v : ℕ) (P : Policy) → Held (1 ∷ []) (askTold n k u a v P)
+unfolding askTold
+ask-held n k u a v P = told-held (1 ∷ []) (askRules n k u a v P) (granted k P u a v) (ask-carried n k u a v P) (λ _. more (bit (eqb (answer k P u a v) 1)) none)
+
+pub alike-held : (n k u v : ℕ) (m : List ℕ) → Held (1 ∷ []) (alikeTold n k u v m)
+unfolding alikeTold
+alike-held n k u v m = told-held (1 ∷ []) (alikeRules n k u v m) _ (alike-carried n k u v m) (λ _. more (bit (alike? n k (cell k n m) u v)) none)
+
+pub build-held : (n k : ℕ) (m : List ℕ) (x y : ℕ) → Held (8 ∷ []) (buildTold n k m x y)
+unfolding buildTold buildRules
+build-held n k m x y = told-held (8 ∷ []) (buildRules n k m x y) (builtFrom n k m .domains ∷ []) (build-carried n k m x y) (λ e.
+    let s = whole-fine n k m (groups-fine (wholeRules n k m) _ e .0) .sized in
+    more (omega (arith, built-few n k (cell k n m), s .entities)) none)
+
+-- one field of at most 24 bits, or a refusal, leaves the upper half 0
+low : (w : ℕ) → 2 ^ w ≤ 2 ^ 24 → (t : Told) → Held (w ∷ []) t → word (w ∷ []) t < 2 ^ 32
+unfolding word fields
+low w b (values (x ∷ vs)) (more h f) = omega arith
+low w b (refused r) h = omega (arith, h .number, h .place)
+
+pub ask-kept : AskKept
+ask-kept n k u a v P = let t = askTold n k u a v P in let h = ask-held n k u a v P in (word-kept (1 ∷ []) t h, low 1 (omega arith) t h)
+
+pub alike-kept : AlikeKept
+alike-kept n k u v m = let t = alikeTold n k u v m in let h = alike-held n k u v m in (word-kept (1 ∷ []) t h, low 1 (omega arith) t h)
+
+pub build-kept : BuildKept
+build-kept n k m x y = let t = buildTold n k m x y in let h = build-held n k m x y in (word-kept (8 ∷ []) t h, low 8 (omega arith) t h)
+
+-- ---- the judge: bits 8 to 15 tell whether two fields follow or three
+
+pub data JudgeHeld : Told → Type 0 where
+  enforcing : (d : ℕ) → d < 2 ^ 16 → JudgeHeld (values (0 ∷ d ∷ []))
+  conflicting : (i x : ℕ) → i < 2 ^ 16 → x < 2 ^ 8 → JudgeHeld (values (1 ∷ i ∷ x ∷ []))
+  refusing : (r : Refusal) → Carried r → JudgeHeld (refused r)
+
+abbrev wide : List ℕ
+wide = 8 ∷ 16 ∷ 8 ∷ []
+
+held-kept : {t : Told} → JudgeHeld t → unword (judgeFields (word wide t)) (word wide t) ≡ t
+unfolding word fields judgeFields
+held-kept (enforcing d h) =
+    rw (eq-eqb (256 * (0 + 2 ^ 8 * (d + 2 ^ 16 * 0)) / 256 % 256) 0 (omega arith)) (word-kept (8 ∷ 16 ∷ []) (values (0 ∷ d ∷ [])) (more (omega arith) (more h none)))
+held-kept (conflicting i x h l) =
+    rw (ne-eqb (256 * (1 + 2 ^ 8 * (i + 2 ^ 16 * (x + 2 ^ 8 * 0))) / 256 % 256) 0 (λ e. omega arith))
+    (word-kept wide (values (1 ∷ i ∷ x ∷ [])) (more (omega arith) (more h (more l none))))
+held-kept (refusing r h) = word-kept (judgeFields (r .number + 256 * r .place)) (refused r) h
+
+held-low : {t : Told} → JudgeHeld t → word wide t < 2 ^ 40
+unfolding word fields
+held-low (enforcing d h) = omega arith
+held-low (conflicting i x h l) = omega arith
+held-low (refusing r h) = omega (arith, h .number, h .place)
+
+pub judge-held : (n k : ℕ) (m : List ℕ) (P : Policy) → JudgeHeld (judgeTold n k m P)
+unfolding judgeTold verdict judgeRules
+judge-held n k m P = go (checked (judgeRules n k m P)) refl (ltb i (n * k * n)) refl
+  where
+    i : ℕ
+    i = conflict n k m P
+
+    logged : checked (judgeRules n k m P) ≡ Fine → (j : ℕ) → j < length m → getD m j 0 < 3
+    logged e = matrix-fine n k m (groups-fine (matrixRules n k m) _ (groups-fine (sizeRules n k (P .domains)) _ e .1) .0) .below
+
+    go : (c : Checked) → checked (judgeRules n k m P) ≡ c → (b : Bool) → ltb i (n * k * n) ≡ b
+        → JudgeHeld (tell c (cond b (1 ∷ i ∷ getD m i 0 ∷ []) (0 ∷ P .domains ∷ [])))
+    go Fine e true f =
+        let J = judgeable n k m P e in
+        let h = ltb-true i (n * k * n) f in
+        let s = small (J .matrix .entities) (J .matrix .rights) (J .matrix .entities) in
+        conflicting i (getD m i 0) (omega (arith, s .cells)) (omega (arith, logged e i (omega (arith, J .matrix .size))))
+    go Fine e false f = enforcing (P .domains) (omega (arith, judgeable n k m P e .few))
+    go (Bad r) e b f = refusing r (gives-bad Carried (judgeRules n k m P) (judge-carried n k m P) r e)
+
+-- so the numbers that the code puts together are small
+pub domains-held : {d : ℕ} → JudgeHeld (values (0 ∷ d ∷ [])) → d < 2 ^ 16
+domains-held (enforcing d h) = h
+
+pub conflict-held : {i x : ℕ} → JudgeHeld (values (1 ∷ i ∷ x ∷ [])) → (i < 2 ^ 16) × (x < 2 ^ 8)
+conflict-held (conflicting i x h l) = (h, l)
+
+pub refusal-held : {r : Refusal} → JudgeHeld (refused r) → Carried r
+refusal-held (refusing r h) = h
+
+pub judge-kept : JudgeKept
+judge-kept n k m P = let h = judge-held n k m P in (held-kept h, held-low h)
