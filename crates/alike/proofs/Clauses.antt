@@ -8,13 +8,13 @@ use Prim.Native.Nat.{ℕ, _<_}
 use native.Mathlib.Decide.{ℕ-discrete}
 use lib.Dec.{T, eqb, eqb→eq}
 use Rattle.model.specs.Below.{all}
-use Rattle.model.specs.Matrix.{Cells, cell}
+use Rattle.model.specs.Matrix.{Cells, cell, rowOf}
 use Rattle.model.specs.Alike.{Alike, alike?}
 use Rattle.model.proofs.Tests.{and-left, and-right, and-both, same-test, eqb-of}
 use Rattle.model.proofs.Below.{all-at, all-of}
+use Rattle.model.proofs.Rows.{row-at}
 use Rattle.model.proofs.Alike.{alike-sound, alike-complete}
-use Rattle.alike.specs.Clauses.{rowOf, four?, own?, ownAll?, but?, sends?, sendsAll?, same?, treats?, treatsAll?}
-use Rattle.alike.proofs.Rows.{row-at}
+use Rattle.alike.specs.Clauses.{four?, own?, ownAll?, but?, sends?, sendsAll?, same?, treats?, treatsAll?}
 use Rattle.alike.proofs.Exits.{four-passes, but-first, but-second, but-other}
 
 -- ---- the tests on plain values

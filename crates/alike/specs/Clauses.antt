@@ -4,12 +4,9 @@ use mathlib.Core.Bool.{Bool, _&&_, _||_}
 use mathlib.Core.List.{List}
 use Prim.Native.Nat.{ℕ, _+_, _*_}
 use lib.Dec.{eqb}
-use lib.ListN.{getD, take, drop}
+use lib.ListN.{getD}
 use Rattle.model.specs.Below.{all}
-
--- the row of sender u: its k·n cells, where they stand in the matrix
-abbrev pub rowOf : ℕ → ℕ → List ℕ → ℕ → List ℕ
-rowOf n k m u = take (k * n) (drop (u * (k * n)) m)
+use Rattle.model.specs.Matrix.{rowOf}
 
 -- the cell of a row for right a and receiver x
 abbrev pub inRow : ℕ → List ℕ → ℕ → ℕ → ℕ

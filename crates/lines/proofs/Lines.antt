@@ -3,9 +3,8 @@
 use mathlib.Core.Path.{_≡_, refl, sym, ap, _∙_, subst}
 use mathlib.Core.Bool.{Bool, true, false, _&&_}
 use mathlib.Core.List.{List}
-use Prim.Native.Nat.{ℕ, zero, suc, _+_, _-_, _*_, _/_, _%_, _≤_, _<_}
-use native.Mathlib.Nat.{add-mul, suc-mul, mul-assoc, add-assoc, mul-le-mul, mul-le-mul-right}
-use native.Mathlib.Decide.{ℕ-discrete, decLt}
+use Prim.Native.Nat.{ℕ, _+_, _*_, _/_, _%_, _≤_, _<_}
+use native.Mathlib.Decide.{ℕ-discrete}
 use native.Mathlib.Numerals.{add-one}
 use native.Mathlib.Omega.{arith}
 use borrow.Author.Tests.{eq-eqb, ne-eqb}
@@ -14,12 +13,12 @@ use lib.Bits.{bitOr, bitXor, or-add-and, xor-add-and, and-le-l, and-le-r, xor-se
 use lib.Dec.{T, eqb, eqb→eq}
 use lib.ListN.{length, getD}
 use Rattle.model.specs.Below.{all}
-use Rattle.model.specs.Matrix.{cell, Laid}
+use Rattle.model.specs.Matrix.{cell, Laid, rowOf}
 use Rattle.model.specs.Alike.{SameRows, rows?, flip, alike?}
-use Rattle.model.proofs.Tests.{same-test, true-of, false-of, eqb-of}
+use Rattle.model.proofs.Tests.{same-test, false-of, eqb-of}
 use Rattle.model.proofs.Below.{all-at, all-of}
 use Rattle.model.proofs.Loops.{all-none, all-next, all-fails}
-use Rattle.model.proofs.Slices.{part, part-length, part-at}
+use Rattle.model.proofs.Rows.{inside, passed, row-length, rows-told, row-at}
 use Rattle.model.proofs.Places.{small, spot}
 use Rattle.model.proofs.Alike.{rows-sound, rows-complete}
 use Rattle.lines.specs.Lines.{same?, columns?}
@@ -83,40 +82,7 @@ columns-differ lines n m u v i h f =
 -- ---- rows and columns of a matrix
 
 module _ (n k : ℕ) (m : List ℕ) (L : Laid n k m) where
-  -- a sender's row, where it stands in the matrix
-  abbrev row : ℕ → List ℕ
-  row x = part m (x * (k * n)) (x * (k * n) + k * n)
-
-  row-end : (x : ℕ) → x < n → x * (k * n) + k * n ≤ length m
-  row-end x h = rw (L .size, mul-assoc) (omega (arith, suc-mul x (k * n), mul-le-mul-right (k * n) h))
-
-  row-length : (x : ℕ) → x < n → length (row x) ≡ k * n
-  row-length x h = part-length m (x * (k * n)) (x * (k * n) + k * n) (omega arith) (row-end x h) ∙ omega arith
-
-  row-cell : (x a y : ℕ) → x < n → a < k → y < n → getD (row x) (a * n + y) 0 ≡ cell k n m x a y
-  unfolding cell
-  row-cell x a y h b l =
-      let inside : a * n + y < k * n = digits-lt b l in
-      part-at m (x * (k * n)) (x * (k * n) + k * n) (omega arith) (row-end x h) (a * n + y) (omega arith)
-      ∙ ap (λ i. getD m i 0) (rw (add-mul, mul-assoc, add-assoc))
-
-  -- no step of finding a row, or a line of one sender and one right, is large
-  pub record Steps (x : ℕ) : Type 0 where
-    pub width : k * n ≤ 512
-    pub start : x * (k * n) ≤ 32768
-    pub end : x * (k * n) + k * n ≤ length m
-    pub bound : length m ≤ 32768
-
-  pub steps : (x : ℕ) → x < n → Steps x
-  steps x h =
-      let w = small (L .entities) (L .rights) (L .entities) in
-      record {
-        width = mul-le-mul (L .rights) (L .entities);
-        start = omega (arith, row-end x h, w .cells, L .size);
-        end = row-end x h;
-        bound = omega (arith, w .cells, L .size);
-      }
-
+  -- no step of finding a line, of one sender and one right, is large
   pub record Line (i x : ℕ) : Type 0 where
     pub start : i * n ≤ 32768
     pub inside : i * n + x < length m
@@ -128,22 +94,30 @@ module _ (n k : ℕ) (m : List ℕ) (L : Laid n k m) where
       record { start = omega (arith, w .cells); inside = rw (L .size) inside }
 
   module _ (u v : ℕ) (h : u < n) (l : v < n) where
-    rows-same : same? (length (row u)) (row u) (row v) ≡ rows? n k (cell k n m) u v
+    abbrev r : List ℕ
+    r = rowOf n k m u
+
+    abbrev s : List ℕ
+    s = rowOf n k m v
+
+    rows-same : same? (length r) r s ≡ rows? n k (cell k n m) u v
     unfolding same? SameRows
-    rows-same = same-test (all (length (row u)) at) (rows? n k (cell k n m) u v)
+    rows-same = same-test (all (length r) at) (rows? n k (cell k n m) u v)
         (λ t. rows-complete n k (cell k n m) u v (λ a x b w.
-        let inside : a * n + x < length (row u) = rw (row-length u h) (digits-lt b w) in
-        sym (row-cell u a x h b w)
-        ∙ eqb→eq (getD (row u) (a * n + x) 0) (getD (row v) (a * n + x) 0) (all-at (length (row u)) at t (a * n + x) inside)
-        ∙ row-cell v a x l b w))
-        (λ t. all-of (length (row u)) at (λ i w.
-        let p = spot k n i (rw (row-length u h) at w) in
-        let s = rows-sound n k (cell k n m) u v t (i / n) (i % n) (p .line) (p .rest) in
-        subst (λ j. T (at j)) (sym (p .is)) (eqb-of (getD (row u) (i / n * n + i % n) 0) (getD (row v) (i / n * n + i % n) 0)
-        (row-cell u (i / n) (i % n) h (p .line) (p .rest) ∙ s ∙ sym (row-cell v (i / n) (i % n) l (p .line) (p .rest))))))
+        sym (row-at n k m u a x b w)
+        ∙ eqb→eq (getD r (a * n + x) 0) (getD s (a * n + x) 0) (all-at (length r) at t (a * n + x) (rw long (digits-lt b w)))
+        ∙ row-at n k m v a x b w))
+        (λ t. all-of (length r) at (λ i w.
+        let p = spot k n i (rw long at w) in
+        let same = rows-sound n k (cell k n m) u v t (i / n) (i % n) (p .line) (p .rest) in
+        subst (λ j. T (at j)) (sym (p .is)) (eqb-of (getD r (i / n * n + i % n) 0) (getD s (i / n * n + i % n) 0)
+        (row-at n k m u (i / n) (i % n) (p .line) (p .rest) ∙ same ∙ sym (row-at n k m v (i / n) (i % n) (p .line) (p .rest))))))
       where
         at : ℕ → Bool
-        at i = eqb (getD (row u) i 0) (getD (row v) i 0)
+        at i = eqb (getD r i 0) (getD s i 0)
+
+        long : length r ≡ k * n
+        long = row-length n k m u (inside L h)
 
     columns-same : columns? (n * k) n m u v ≡ rows? n k (flip (cell k n m)) u v
     unfolding columns? SameRows cell
@@ -152,17 +126,21 @@ module _ (n k : ℕ) (m : List ℕ) (L : Laid n k m) where
         eqb→eq (getD m ((x * k + a) * n + u) 0) (getD m ((x * k + a) * n + v) 0) (all-at (n * k) at t (x * k + a) (digits-lt w b))))
         (λ t. all-of (n * k) at (λ i w.
         let p = spot n k i w in
-        let s = rows-sound n k (flip (cell k n m)) u v t (i % k) (i / k) (p .rest) (p .line) in
-        subst (λ j. T (at j)) (sym (p .is)) (eqb-of (getD m ((i / k * k + i % k) * n + u) 0) (getD m ((i / k * k + i % k) * n + v) 0) s)))
+        let same = rows-sound n k (flip (cell k n m)) u v t (i % k) (i / k) (p .rest) (p .line) in
+        subst (λ j. T (at j)) (sym (p .is)) (eqb-of (getD m ((i / k * k + i % k) * n + u) 0) (getD m ((i / k * k + i % k) * n + v) 0) same)))
       where
         at : ℕ → Bool
         at i = eqb (getD m (i * n + u) 0) (getD m (i * n + v) 0)
 
-    -- the two exits of `same`
-    pub rows-differ : same? (length (row u)) (row u) (row v) ≡ false → false ≡ alike? n k (cell k n m) u v
-    unfolding alike?
-    rows-differ e = rw (← rows-same, e)
+    -- the two exits of `same`, where b tells of the parts of the matrix that are passed
+    module _ (b : Bool) (e : b ≡ same? (length (passed n k m u)) (passed n k m u) (passed n k m v)) where
+      told : rows? n k (cell k n m) u v ≡ b
+      told = sym rows-same ∙ rows-told n k m u v (λ r s. same? (length r) r s) b e
 
-    pub rows-then-columns : same? (length (row u)) (row u) (row v) ≡ true → columns? (n * k) n m u v ≡ alike? n k (cell k n m) u v
-    unfolding alike?
-    rows-then-columns e = rw (← rows-same, e) columns-same
+      pub rows-differ : b ≡ false → false ≡ alike? n k (cell k n m) u v
+      unfolding alike?
+      rows-differ f = rw (told, f)
+
+      pub rows-then-columns : b ≡ true → columns? (n * k) n m u v ≡ alike? n k (cell k n m) u v
+      unfolding alike?
+      rows-then-columns f = rw (told, f) columns-same

@@ -4,6 +4,7 @@ pub mod Loops
 pub mod Slices
 pub mod Count
 pub mod Places
+pub mod Rows
 pub mod Classes
 pub mod Numbering
 pub mod Alike

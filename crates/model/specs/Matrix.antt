@@ -2,7 +2,7 @@
 use mathlib.Core.Path.{_≡_}
 use mathlib.Core.List.{List}
 use Prim.Native.Nat.{ℕ, _+_, _*_, _≤_, _<_}
-use lib.ListN.{length, getD}
+use lib.ListN.{length, getD, take, drop}
 
 -- a value for each sender, right and receiver (Definition 4.1): 0 deny, 1 grant, 2 unlogged
 abbrev pub Cells : Type 0
@@ -21,6 +21,10 @@ pub record Laid (n k : ℕ) (m : List ℕ) : Type 0 where
   pub entities : n ≤ 64
   pub rights : k ≤ 8
   pub size : length m ≡ n * k * n
+
+-- a sender's row: its k·n cells, where they stand in the matrix
+abbrev pub rowOf : ℕ → ℕ → List ℕ → ℕ → List ℕ
+rowOf n k m u = take (k * n) (drop (u * (k * n)) m)
 
 -- no cell is unlogged
 unfoldable pub Full : ℕ → ℕ → Cells → Type 0

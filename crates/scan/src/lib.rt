@@ -10,7 +10,8 @@ ghost use Rattle.model.specs.declared.Checked.the-variants.{Fine};
 ghost use Rattle.model.specs.Below.{any};
 ghost use Rattle.model.specs.Matrix.{cellAt};
 ghost use Rattle.model.specs.Refusal.{refusal, cellRefusal, checked};
-ghost use Rattle.model.specs.Rules.{lowest, listRules, sizeRules, matrixRules, fullRules, wholeRules, assignmentRules, tableRules, requestRules, pairRules, roomRules};
+ghost use Rattle.model.specs.Rules.{lowest, listRules, sizeRules, matrixRules, fullRules, wholeRules, assignmentRules, tableRules};
+ghost use Rattle.model.specs.Rules.{requestRules, pairRules, roomRules};
 
 // A refusal that names no cell.
 pub fn refuse(number: usize, place: usize) -> Refusal

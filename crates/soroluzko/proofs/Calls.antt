@@ -83,7 +83,8 @@ wide = 8 ∷ 16 ∷ 8 ∷ []
 held-kept : {t : Told} → JudgeHeld t → unword (judgeFields (word wide t)) (word wide t) ≡ t
 unfolding word fields judgeFields
 held-kept (enforcing d h) =
-    rw (eq-eqb (256 * (0 + 2 ^ 8 * (d + 2 ^ 16 * 0)) / 256 % 256) 0 (omega arith)) (word-kept (8 ∷ 16 ∷ []) (values (0 ∷ d ∷ [])) (more (omega arith) (more h none)))
+    rw (eq-eqb (256 * (0 + 2 ^ 8 * (d + 2 ^ 16 * 0)) / 256 % 256) 0 (omega arith))
+    (word-kept (8 ∷ 16 ∷ []) (values (0 ∷ d ∷ [])) (more (omega arith) (more h none)))
 held-kept (conflicting i x h l) =
     rw (ne-eqb (256 * (1 + 2 ^ 8 * (i + 2 ^ 16 * (x + 2 ^ 8 * 0))) / 256 % 256) 0 (λ e. omega arith))
     (word-kept wide (values (1 ∷ i ∷ x ∷ [])) (more (omega arith) (more h (more l none))))

@@ -104,7 +104,8 @@ module _ (n k d : ℕ) (s : Sized n k d) where
 
   assignment-carried : (l : List ℕ) → Gives Carried (assignmentRules n d l)
   unfolding assignmentRules
-  assignment-carried l = list-carried 5 n _ l (refusal 6) (omega arith) (omega arith) (omega (arith, s .entities)) (λ i b. carried 6 i (omega arith) (omega arith) b)
+  assignment-carried l = list-carried 5 n _ l (refusal 6) (omega arith) (omega arith) (omega (arith, s .entities))
+      (λ i b. carried 6 i (omega arith) (omega arith) b)
 
   table-carried : (l : List ℕ) → Gives Carried (tableRules k d l)
   unfolding tableRules

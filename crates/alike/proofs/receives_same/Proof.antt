@@ -10,8 +10,9 @@ use native.Mathlib.Nat.{mul-le-mul}
 use lib.ListN.{length}
 use Rattle.model.specs.Below.{all}
 use Rattle.model.proofs.Loops.{all-none, all-next, all-fails}
-use Rattle.alike.specs.Clauses.{rowOf, treats?}
-use Rattle.alike.proofs.Rows.{Inside, inside, row-length, row-told}
+use Rattle.alike.specs.Clauses.{treats?}
+use Rattle.model.specs.Matrix.{rowOf}
+use Rattle.model.proofs.Rows.{Inside, inside, passed-length, row-told}
 use Rattle.alike.proofs.Exits.{all-done}
 use Rattle.alike.proofs.receives_same.Tie as tie
 use Rattle.alike.proofs.receives_same.Statement.{statement}
@@ -60,7 +61,7 @@ treats-same-requires : tie.Need-treats-same-requires Inv-loop μ-loop
 treats-same-requires c κs =
     let x = c .before .before .before .before .args in
     let L = c .before .before .before .before .pre .0 in
-    (L .entities, L .rights, omega arith, omega arith, row-length (x .n) (x .k) (x .m .now) (c .before .before .loop .x) (row (c .before)))
+    (L .entities, L .rights, omega arith, omega arith, passed-length (x .n) (x .k) (x .m .now) (c .before .before .loop .x) (row (c .before)))
 
 returns : tie.Need-returns Inv-loop μ-loop
 returns c =

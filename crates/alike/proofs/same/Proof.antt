@@ -5,8 +5,9 @@ use borrow.Author.Tests.{not-true, not-false}
 use mathlib.Core.Path.{_≡_, _∙_}
 use native.Mathlib.Omega.{arith}
 use lib.ListN.{length}
-use Rattle.alike.specs.Clauses.{rowOf, ownAll?, sendsAll?, treatsAll?}
-use Rattle.alike.proofs.Rows.{Inside, inside, rows-told}
+use Rattle.alike.specs.Clauses.{ownAll?, sendsAll?, treatsAll?}
+use Rattle.model.specs.Matrix.{rowOf}
+use Rattle.model.proofs.Rows.{Inside, inside, rows-told}
 use Rattle.alike.proofs.Clauses.{own-differ, sends-differ, treats-decide}
 use Rattle.alike.proofs.same.Statement.{statement}
 use Rattle.alike.proofs.same.Tie as tie

@@ -18,7 +18,8 @@ use Rattle.build.proofs.build.Statement.{statement}
 abbrev start : tie.After-enum-told → tie.Start
 start c = c .before .before .before .before .before .before
 
-fine : (c : tie.After-enum-told) → let a = start c .args in checked (wholeRules (a .n) (a .k) (a .matrix .now) ++ roomRules 10 (length (a .assignment .now)) (a .n)) ≡ Fine
+fine : (c : tie.After-enum-told) → let a = start c .args in
+    checked (wholeRules (a .n) (a .k) (a .matrix .now) ++ roomRules 10 (length (a .assignment .now)) (a .n)) ≡ Fine
 fine c = sym (c .before .before .build-fits .ensures) ∙ c .enum-told .given .1
 
 build-fits-requires : tie.Need-build-fits-requires
@@ -30,7 +31,8 @@ enum-known-fits c = search needs
 returns : tie.Need-returns
 returns c =
     let a = c .before .before .before .before .before .before .before .args in
-    early-bad (a .n) (a .k) (a .matrix .now) (a .assignment .now) (a .table .now) _ (sym (c .before .before .before .build-fits .ensures) ∙ c .before .fits2 .given .1)
+    let bad = sym (c .before .before .before .build-fits .ensures) ∙ c .before .fits2 .given .1 in
+    early-bad (a .n) (a .k) (a .matrix .now) (a .assignment .now) (a .table .now) _ bad
 
 enum-told : tie.Need-enum-told
 enum-told c = search needs

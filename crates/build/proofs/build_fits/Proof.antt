@@ -16,7 +16,8 @@ enum-known-whole c = search needs
 returns : tie.Need-returns
 returns c =
     let a = c .before .before .before .before .before .args in
-    sym (group-bad (wholeRules (a .n) (a .k) (a .matrix .now)) (roomRules 10 (a .room) (a .n)) _ (sym (c .before .before .before .whole-fits .ensures) ∙ c .before .whole .given .1))
+    let bad = sym (c .before .before .before .whole-fits .ensures) ∙ c .before .whole .given .1 in
+    sym (group-bad (wholeRules (a .n) (a .k) (a .matrix .now)) (roomRules 10 (a .room) (a .n)) _ bad)
 
 enum-told : tie.Need-enum-told
 enum-told c = search needs

@@ -4,7 +4,7 @@ use mathlib.Core.Path.{_≡_}
 use mathlib.Core.Logic.{⊎-elim}
 use mathlib.Core.Bool.{Bool}
 use mathlib.Core.List.{List}
-use Prim.Native.Nat.{ℕ, _-_, _≤_}
+use Prim.Native.Nat.{ℕ, _-_, _≤_, _<_}
 use native.Mathlib.Omega.{arith}
 use lib.ListN.{length}
 use Rattle.model.specs.Matrix.{cell}
@@ -62,7 +62,13 @@ find-requires c κs =
     let e = c .before .before .before .before .before .before in
     let l = c .before .before .loop in
     let q = long (c .before .before) in
-    (e .pre .0, (record { few = omega (arith, few (c .before .before)); long = omega (arith, q .1, e .pre .1 .1, few (c .before .before)); each = member-stays _ _ _ _ _ _ _ _ (l .inv) (tests e) (omega arith) }, omega arith))
+    let f = few (c .before .before) in
+    let met : Members (e .args .n) (l .d) (l .members) = record {
+      few = omega (arith, f);
+      long = omega (arith, q .1, e .pre .1 .1, f);
+      each = member-stays _ _ _ _ _ _ _ _ (l .inv) (tests e) (omega arith);
+    } in
+    (e .pre .0, (met, omega arith))
 
 cast-domains : tie.Need-cast-domains Inv-loop μ-loop
 cast-domains c = omega (arith, under c, few (c .before .before .before), start c .pre .0 .entities)
@@ -90,9 +96,11 @@ loop-again c =
     let e = start (c .before) in
     let l = c .before .before .before .before .loop in
     let is = number (c .before) in
+    let numbers : l .u < length (e .args .domains .now) = omega (arith, e .pre .1 .0) in
+    let members : l .d < length (e .args .members .now) = omega (arith, few (c .before .before .before .before), e .pre .1 .1) in
     ⊎-elim
-    (λ w. rw (w .1, w .2) (numbered-new _ _ _ _ _ _ _ _ (l .inv) (tests e) (omega arith) _ is (omega (arith, e .pre .1 .0)) (omega arith) (omega (arith, few (c .before .before .before .before), e .pre .1 .1))))
-    (λ w. rw (w .1, w .2) (numbered-old _ _ _ _ _ _ _ _ (l .inv) (tests e) (omega arith) _ is (omega (arith, e .pre .1 .0)) (omega (arith, w .0, under (c .before)))))
+    (λ w. rw (w .1, w .2) (numbered-new _ _ _ _ _ _ _ _ (l .inv) (tests e) (omega arith) _ is numbers (omega arith) members))
+    (λ w. rw (w .1, w .2) (numbered-old _ _ _ _ _ _ _ _ (l .inv) (tests e) (omega arith) _ is numbers (omega (arith, w .0, under (c .before)))))
     (c .if1 .came)
 
 same-length : tie.Need-same-length Inv-loop μ-loop

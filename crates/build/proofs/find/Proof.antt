@@ -23,6 +23,11 @@ Inv-loop n k d u m members p₀ p = (p ≤ d) × (first p (likes n k u m members
 abbrev μ-loop : tie.MeasureT-loop
 μ-loop n k d u m members p₀ p = d - p
 
+-- what the comparison told
+told : (c : tie.After-same Inv-loop μ-loop) → let a = c .before .before .before .before .before .before .args in
+    likes (a .n) (a .k) (a .u) (a .m .now) (a .members .now) (c .before .before .before .loop .p) ≡ c .same .result
+told c = sym (c .same .ensures)
+
 loop-holds : tie.Need-loop-holds Inv-loop μ-loop
 loop-holds c = (omega arith, first-zero _)
 
@@ -45,7 +50,7 @@ returns c =
     let l = c .before .before .before .before .loop in
     let a = c .before .before .before .before .before .before .before .args in
     let t = likes (a .n) (a .k) (a .u) (a .m .now) (a .members .now) in
-    sym (first-here (a .d) (l .p) t (omega arith) (l .inv .1) (sym (c .before .same .ensures) ∙ c .if1 .taken))
+    sym (first-here (a .d) (l .p) t (omega arith) (l .inv .1) (told (c .before) ∙ c .if1 .taken))
 
 add-p : tie.Need-add-p Inv-loop μ-loop
 add-p c = let i = c .before .before .before .before .before .before .before .pre in omega (arith, i .0 .entities, i .1 .0 .few)
@@ -58,7 +63,7 @@ loop-again c =
     let l = c .before .before .before .before .loop in
     let a = c .before .before .before .before .before .before .before .args in
     let t = likes (a .n) (a .k) (a .u) (a .m .now) (a .members .now) in
-    (omega arith, first-next (l .p) t (l .inv .1) (sym (c .before .same .ensures) ∙ c .if1 .left))
+    (omega arith, first-next (l .p) t (l .inv .1) (told (c .before) ∙ c .if1 .left))
 
 returns-2 : tie.Need-returns-2 Inv-loop μ-loop
 returns-2 c =

@@ -38,8 +38,11 @@ start c = c .before .before .before .before .before .before .before
 
 -- the cell that is next
 here : (c : In)
-    → let a = start c .args in let l = c .before .loop3 in
-    At (a .n) (a .k) (a .d) (a .m .now) (a .members .now) (c .before .before .before .before .before .before .loop .p) (c .before .before .before .before .loop2 .a) (l .q) (l .to)
+    → let a = start c .args in
+    let l = c .before .loop3 in
+    let p = c .before .before .before .before .before .before .loop .p in
+    let b = c .before .before .before .before .loop2 .a in
+    At (a .n) (a .k) (a .d) (a .m .now) (a .members .now) p b (l .q) (l .to)
 here c =
     let e = start c in
     let a = e .args in
@@ -59,7 +62,8 @@ row c =
     let a = e .args in
     let p = c .before .before .before .before .loop .p in
     let b = c .before .before .loop2 .a in
-    at (a .n) (a .k) (a .d) (a .m .now) (a .members .now) (e .pre .0) (e .pre .1 .0) p b p (cellAt (a .k) (a .d) p b p) refl (omega arith) (omega arith) (omega arith)
+    let to = cellAt (a .k) (a .d) p b p in
+    at (a .n) (a .k) (a .d) (a .m .now) (a .members .now) (e .pre .0) (e .pre .1 .0) p b p to refl (omega arith) (omega arith) (omega arith)
 
 -- the table keeps its length, so that there is room for it
 long : (c : In) → let a = start c .args in a .d * a .k * a .d ≤ length (c .before .loop3 .table)

@@ -36,13 +36,15 @@ returns-2 c =
     let a = c .before .before .before .before .before .args in
     let i = c .before .before .lowest-from in
     ap Bad (c .refuse-cell .ensures)
-    ∙ list-bad (a .short) (a .x * a .k * a .y) (leb (a .from)) (a .s .now) (cellRefusal (a .stray) (a .k) (a .y)) (i .result) (omega arith) (i .ensures) (omega arith)
+    ∙ list-bad (a .short) (a .x * a .k * a .y) (leb (a .from)) (a .s .now) (cellRefusal (a .stray) (a .k) (a .y))
+    (i .result) (omega arith) (i .ensures) (omega arith)
 
 returns-3 : tie.Need-returns-3
 returns-3 c =
     let a = c .before .before .before .before .args in
     let i = c .before .lowest-from in
-    list-passes (a .short) (a .x * a .k * a .y) (leb (a .from)) (a .s .now) (cellRefusal (a .stray) (a .k) (a .y)) (i .result) (omega arith) (i .ensures) (omega arith)
+    list-passes (a .short) (a .x * a .k * a .y) (leb (a .from)) (a .s .now) (cellRefusal (a .stray) (a .k) (a .y))
+    (i .result) (omega arith) (i .ensures) (omega arith)
 
 pub cells-fit-spec : {M : Type 1} → statement M
 cells-fit-spec =

@@ -29,7 +29,9 @@ refuse-requires-4 : tie.Need-refuse-requires-4
 refuse-requires-4 c κs = search needs
 
 returns-4 : tie.Need-returns-4
-returns-4 c = let a = c .before .before .before .before .before .args in ap Bad (c .refuse4 .ensures) ∙ sizes-d (a .n) (a .k) (a .d) (omega arith) (omega arith) (omega arith) (omega arith)
+returns-4 c =
+    let a = c .before .before .before .before .before .args in
+    ap Bad (c .refuse4 .ensures) ∙ sizes-d (a .n) (a .k) (a .d) (omega arith) (omega arith) (omega arith) (omega arith)
 
 returns-5 : tie.Need-returns-5
 returns-5 c = let a = c .before .before .before .before .args in sym (sizes-pass (a .n) (a .k) (a .d) (omega arith) (omega arith) (omega arith) (omega arith))

@@ -23,7 +23,9 @@ enum-known-compared : tie.Need-enum-known-compared
 enum-known-compared c = search needs
 
 refusal-word-requires : tie.Need-refusal-word-requires
-refusal-word-requires c κs = subst (Held (1 ∷ [])) (sym (c .before .before .before .alike .ensures) ∙ ap comparedTold (c .before .compared .given .1)) (alike-held _ _ _ _ _)
+refusal-word-requires c κs =
+    let told = sym (c .before .before .before .alike .ensures) ∙ ap comparedTold (c .before .compared .given .1) in
+    subst (Held (1 ∷ [])) told (alike-held _ _ _ _ _)
 
 returns : tie.Need-returns
 unfolding word fields

@@ -22,8 +22,9 @@ value c = c .before .built .given .0 .0
 
 -- the number of domains has room in its field
 small : (c : tie.After-known-told) → value c < 2 ^ 8
-small c = first-fits (subst (Held (8 ∷ [])) (sym (c .before .before .before .before .before .before .before .build .ensures .told) ∙ ap builtTold (c .before .built .given .1))
-    (build-held _ _ _ _ _))
+small c =
+    let told = sym (c .before .before .before .before .before .before .before .build .ensures .told) ∙ ap builtTold (c .before .built .given .1) in
+    first-fits (subst (Held (8 ∷ [])) told (build-held _ _ _ _ _))
 
 build-requires : tie.Need-build-requires
 build-requires c κs = search needs
@@ -38,7 +39,9 @@ enum-known-built-2 : tie.Need-enum-known-built-2
 enum-known-built-2 c = search needs
 
 refusal-word-requires : tie.Need-refusal-word-requires
-refusal-word-requires c κs = subst (Held (8 ∷ [])) (sym (c .before .before .before .before .before .before .before .build .ensures .told) ∙ ap builtTold (c .before .built2 .given .1)) (build-held _ _ _ _ _)
+refusal-word-requires c κs =
+    let told = sym (c .before .before .before .before .before .before .before .build .ensures .told) ∙ ap builtTold (c .before .built2 .given .1) in
+    subst (Held (8 ∷ [])) told (build-held _ _ _ _ _)
 
 same-length : tie.Need-same-length
 same-length c = search needs

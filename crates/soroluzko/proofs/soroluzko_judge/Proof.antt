@@ -11,10 +11,14 @@ use Rattle.soroluzko.proofs.soroluzko_judge.Statement.{statement}
 use Rattle.soroluzko.proofs.soroluzko_judge.Tie as tie
 
 domains : (c : tie.After-known-told) → c .before .judged .given .0 .0 < 2 ^ 16
-domains c = domains-held (subst JudgeHeld (sym (c .before .before .before .judge .ensures) ∙ ap judgedTold (c .before .judged .given .1)) (judge-held _ _ _ _))
+domains c =
+    let told = sym (c .before .before .before .judge .ensures) ∙ ap judgedTold (c .before .judged .given .1) in
+    domains-held (subst JudgeHeld told (judge-held _ _ _ _))
 
 conflict : (c : tie.After-known-told2) → let g = c .before .judged2 .given .0 in (g .0 < 2 ^ 16) × (g .1 .0 < 2 ^ 8)
-conflict c = conflict-held (subst JudgeHeld (sym (c .before .before .before .judge .ensures) ∙ ap judgedTold (c .before .judged2 .given .1)) (judge-held _ _ _ _))
+conflict c =
+    let told = sym (c .before .before .before .judge .ensures) ∙ ap judgedTold (c .before .judged2 .given .1) in
+    conflict-held (subst JudgeHeld told (judge-held _ _ _ _))
 
 judge-requires : tie.Need-judge-requires
 judge-requires c κs = search needs
@@ -47,7 +51,9 @@ enum-known-judged-3 : tie.Need-enum-known-judged-3
 enum-known-judged-3 c = search needs
 
 refusal-word-requires : tie.Need-refusal-word-requires
-refusal-word-requires c κs = refusal-held (subst JudgeHeld (sym (c .before .before .before .judge .ensures) ∙ ap judgedTold (c .before .judged3 .given .1)) (judge-held _ _ _ _))
+refusal-word-requires c κs =
+    let told = sym (c .before .before .before .judge .ensures) ∙ ap judgedTold (c .before .judged3 .given .1) in
+    refusal-held (subst JudgeHeld told (judge-held _ _ _ _))
 
 returns : tie.Need-returns
 unfolding word fields
@@ -66,7 +72,9 @@ returns-2 c =
 
 returns-3 : tie.Need-returns-3
 unfolding word fields
-returns-3 c = c .refusal-word .ensures ∙ ap (word (8 ∷ 16 ∷ 8 ∷ [])) (sym (ap judgedTold (c .before .before .judged3 .given .1)) ∙ c .before .before .before .before .judge .ensures)
+returns-3 c =
+    let told = sym (ap judgedTold (c .before .before .judged3 .given .1)) ∙ c .before .before .before .before .judge .ensures in
+    c .refusal-word .ensures ∙ ap (word (8 ∷ 16 ∷ 8 ∷ [])) told
 
 pub soroluzko-judge-spec : {M : Type 1} → statement M
 soroluzko-judge-spec =
