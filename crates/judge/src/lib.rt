@@ -90,11 +90,11 @@ fn first_conflict(
     cell
 }
 
-// Whether the policy's answer, 0 or 1, contradicts what is logged. An unlogged cell is contradicted by none. There is no branch inside,
-// since none could be foreseen.
+// Whether the policy's answer, 0 or 1, contradicts what is logged: a logged 0 or 1 that is not the answer differs from it by 1 bit for
+// bit, and an unlogged 2 never does. One comparison, since no branch could be foreseen.
 fn contradicts(logged: u8, answer: u8) -> bool
     requires { ⌜ answer < 2 ⌝ }
     ensures { λ b. ⌜ b ≡ clash? logged answer ⌝ }
 {
-    (logged < 2) & (logged != answer)
+    logged ^ answer == 1
 }

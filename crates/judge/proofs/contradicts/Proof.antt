@@ -1,26 +1,35 @@
--- `judge::contradicts` meets its contract: of a logged cell, which is 0 or 1, an answer that is 0 or 1 is contradicted exactly if the two
--- differ. Assumes nothing.
-use mathlib.Core.Path.{_≡_, refl}
-use mathlib.Core.Bool.{not, _&&_}
+-- `judge::contradicts` meets its contract: where the answer is 0 the sum without carry is what is logged, and is 1 for a grant; where it is
+-- 1 the sum is 1 only for a logged 0. Assumes nothing.
+use mathlib.Core.Path.{_≡_, sym, ap, _∙_}
 use Prim.Native.Nat.{ℕ, _<_}
 use native.Mathlib.Decide.{ℕ-discrete}
 use native.Mathlib.Omega.{arith}
-use borrow.Author.Tests.{lt-ltb, le-ltb, eq-eqb, ne-eqb}
-use lib.Dec.{eqb, ltb}
+use borrow.Author.Tests.{ne-eqb}
+use lib.Bits.{bitXor, xor-zero-r, xor-add-and, and-le-r}
+use lib.Dec.{eqb}
 use Rattle.model.specs.Clash.{clash?}
 use Rattle.judge.proofs.contradicts.Statement.{statement}
 use Rattle.judge.proofs.contradicts.Tie as tie
 
-differ : (x g : ℕ) → g < 2 → (ltb x 2 && not (eqb x g)) ≡ clash? x g
-unfolding clash?
-differ x g h = go (ℕ-discrete x 0) (ℕ-discrete x 1) (ℕ-discrete g 1)
+-- a number that a 1 makes 1 is 0
+only-nought : (x : ℕ) → ¬ (x ≡ 0) → ¬ (bitXor x 1 ≡ 1)
+only-nought x f e = go (ℕ-discrete x 2)
   where
-    go : Dec (x ≡ 0) → Dec (x ≡ 1) → Dec (g ≡ 1) → (ltb x 2 && not (eqb x g)) ≡ clash? x g
-    go (yes a) _ (yes c) = rw (a, c)
-    go (yes a) _ (no c) = let z : g ≡ 0 = omega arith in rw (a, z)
-    go (no a) (yes b) (yes c) = rw (b, c)
-    go (no a) (yes b) (no c) = let z : g ≡ 0 = omega arith in rw (b, z)
-    go (no a) (no b) _ = rw (le-ltb x 2 (omega arith), ne-eqb x 0 a, ne-eqb x 1 b)
+    go : Dec (x ≡ 2) → ⊥
+    go (yes q) = let z : _≡_ {A = ℕ} 3 1 = ap (λ (y : ℕ). bitXor y 1) (sym q) ∙ e in omega arith
+    go (no q) = omega (arith, xor-add-and x 1, and-le-r x 1)
+
+differ : (x g : ℕ) → g < 2 → eqb (bitXor x g) 1 ≡ clash? x g
+unfolding clash?
+differ x g h = go (ℕ-discrete g 0) (ℕ-discrete x 0) (ℕ-discrete x 1)
+  where
+    go : Dec (g ≡ 0) → Dec (x ≡ 0) → Dec (x ≡ 1) → eqb (bitXor x g) 1 ≡ clash? x g
+    go (yes e) (yes a) _ = rw (e, a)
+    go (yes e) (no a) (yes b) = rw (e, b)
+    go (yes e) (no a) (no b) = rw (e, xor-zero-r x, ne-eqb x 0 a, ne-eqb x 1 b)
+    go (no e) (yes a) _ = let z : g ≡ 1 = omega arith in rw (z, a)
+    go (no e) (no a) (yes b) = let z : g ≡ 1 = omega arith in rw (z, b)
+    go (no e) (no a) (no b) = let z : g ≡ 1 = omega arith in rw (z, ne-eqb (bitXor x 1) 1 (only-nought x a), ne-eqb x 0 a, ne-eqb x 1 b)
 
 returns : tie.Need-returns
 returns c = differ _ _ (omega arith)
