@@ -25,7 +25,7 @@ use Rattle.model.proofs.Alike.{alike-tests}
 use Rattle.model.proofs.Rules.{Whole, whole-fine, room-fine}
 use Rattle.build.specs.declared.Built.{Built}
 use Rattle.build.specs.declared.Built.the-variants.{Refused}
-use Rattle.build.specs.Build.{builtFrom, tableSize, buildRules, buildTold, builtTold, Builds, from, Members}
+use Rattle.build.specs.Build.{builtFrom, tableSize, buildRules, buildTold, builtTold, Builds, nth, Members}
 
 filled-long : (i : ℕ) (f : ℕ → ℕ) (l : List ℕ) → i ≤ length (filled i f l)
 filled-long i f l = rw (length-append, length-tab, length-drop) (omega arith)
@@ -63,7 +63,7 @@ module _ (n k : ℕ) (m s t : List ℕ) where
       pub numbers-long : n ≤ length of
       numbers-long = rw numbers (filled-long n (classOf n like) of₀)
 
-      member-at : (p : ℕ) → p < d → from low p ≡ memberOf n like p
+      member-at : (p : ℕ) → p < d → nth low p ≡ memberOf n like p
       member-at p h = rw members (filled-at d (memberOf n like) low₀ p h)
 
       pub members-in : Members n d low
@@ -77,11 +77,11 @@ module _ (n k : ℕ) (m s t : List ℕ) where
       unfolding built
       is-domains = is
 
-      is-assignment : tab n (from of) ≡ builtFrom n k m .assignment
+      is-assignment : tab n (nth of) ≡ builtFrom n k m .assignment
       unfolding built
-      is-assignment = tab-same n (from of) (classOf n like) (λ u h. rw numbers (filled-at n (classOf n like) of₀ u h))
+      is-assignment = tab-same n (nth of) (classOf n like) (λ u h. rw numbers (filled-at n (classOf n like) of₀ u h))
 
-      is-table : tableOf d d k (cell k n m) (from low) (from low) ≡ builtFrom n k m .table
+      is-table : tableOf d d k (cell k n m) (nth low) (nth low) ≡ builtFrom n k m .table
       unfolding built tableOf
       is-table =
           tab-same (d * k * d) _ (λ i. cell k n m (memberOf n like (i / d / k)) (i / d % k) (memberOf n like (i % d))) (λ i h.
@@ -95,8 +95,8 @@ module _ (n k : ℕ) (m s t : List ℕ) where
 
       pub wrote : (r : Built) (s′ t′ : List ℕ)
           → builtTold r ≡ tell (checked (roomRules 11 (length t) (d * k * d))) (d ∷ [])
-          → s′ ≡ held (checked (roomRules 11 (length t) (d * k * d))) (tab n (from of)) s
-          → t′ ≡ held (checked (roomRules 11 (length t) (d * k * d))) (tableOf d d k (cell k n m) (from low) (from low)) t
+          → s′ ≡ held (checked (roomRules 11 (length t) (d * k * d))) (tab n (nth of)) s
+          → t′ ≡ held (checked (roomRules 11 (length t) (d * k * d))) (tableOf d d k (cell k n m) (nth low) (nth low)) t
           → Builds n k m s t r s′ t′
       unfolding buildTold
       wrote r s′ t′ told bytes cells = record {

@@ -48,11 +48,11 @@ pub record Builds (n k : ℕ) (m s t : List ℕ) (r : Built) (s′ t′ : List �
 -- ---- for the functions below the call
 
 -- the number that stands at i
-abbrev pub from : List ℕ → ℕ → ℕ
-from l i = getD l i 0
+abbrev pub nth : List ℕ → ℕ → ℕ
+nth l i = getD l i 0
 
 -- the first d of these are entities
 pub record Members (n d : ℕ) (low : List ℕ) : Type 0 where
   pub few : d ≤ n
   pub long : d ≤ length low
-  pub each : (p : ℕ) → p < d → from low p < n
+  pub each : (p : ℕ) → p < d → nth low p < n

@@ -12,7 +12,7 @@ ghost use Rattle.model.specs.Classes.{classes, classOf, memberOf};
 ghost use Rattle.model.specs.Built.{tableOf};
 ghost use Rattle.model.specs.Refusal.{checked, tell, held};
 ghost use Rattle.model.specs.Rules.{wholeRules, roomRules};
-ghost use Rattle.build.specs.Build.{builtTold, Builds, from, Members};
+ghost use Rattle.build.specs.Build.{builtTold, Builds, nth, Members};
 
 pub enum Built {
     Domains(usize),
@@ -72,7 +72,7 @@ fn find(n: usize, k: usize, d: usize, u: usize, m: &[u8], members: &[u8]) -> usi
     requires { ⌜ Laid n k (now m) ⌝ }
     requires { ⌜ Members n d (now members) ⌝ }
     requires { ⌜ u < n ⌝ }
-    ensures { λ p. ⌜ p ≡ first d (λ c. alike? n k (cell k n (now (m .entry))) u (from (now (members .entry)) c)) ⌝ }
+    ensures { λ p. ⌜ p ≡ first d (λ c. alike? n k (cell k n (now (m .entry))) u (nth (now (members .entry)) c)) ⌝ }
 {
     let mut p = 0;
     while p < d {
@@ -102,12 +102,12 @@ fn write(
     ensures { λ r. ⌜ builtTold r ≡ tell (checked (roomRules 11 (length (now (table .entry))) (d * k * d))) (d ∷ []) ⌝ }
     ensures { λ _. ⌜
         now (assignment .exit)
-        ≡ held (checked (roomRules 11 (length (now (table .entry))) (d * k * d))) (tab n (from (now (domains .entry)))) (now (assignment .entry))
+        ≡ held (checked (roomRules 11 (length (now (table .entry))) (d * k * d))) (tab n (nth (now (domains .entry)))) (now (assignment .entry))
         ⌝ }
     ensures { λ _. ⌜
         now (table .exit)
         ≡ held (checked (roomRules 11 (length (now (table .entry))) (d * k * d)))
-        (tableOf d d k (cell k n (now (m .entry))) (from (now (members .entry))) (from (now (members .entry)))) (now (table .entry))
+        (tableOf d d k (cell k n (now (m .entry))) (nth (now (members .entry))) (nth (now (members .entry)))) (now (table .entry))
         ⌝ }
 {
     let room = scan::room_fits(11, table.len(), d * k * d);
@@ -122,7 +122,7 @@ fn write(
 // The first n bytes of `domains` to the assignment.
 fn put_assignment(n: usize, domains: &[u8], assignment: &mut [u8])
     requires { ⌜ (n ≤ length (now domains)) × (n ≤ length (now assignment)) ⌝ }
-    ensures { λ _. ⌜ now (assignment .exit) ≡ tab n (from (now (domains .entry))) ++ drop n (now (assignment .entry)) ⌝ }
+    ensures { λ _. ⌜ now (assignment .exit) ≡ tab n (nth (now (domains .entry))) ++ drop n (now (assignment .entry)) ⌝ }
 {
     let mut i = 0;
     while i < n {
@@ -138,7 +138,7 @@ fn put_table(n: usize, k: usize, d: usize, m: &[u8], members: &[u8], table: &mut
     requires { ⌜ d * k * d ≤ length (now table) ⌝ }
     ensures { λ _. ⌜
         now (table .exit)
-        ≡ tableOf d d k (cell k n (now (m .entry))) (from (now (members .entry))) (from (now (members .entry)))
+        ≡ tableOf d d k (cell k n (now (m .entry))) (nth (now (members .entry))) (nth (now (members .entry)))
         ++ drop (d * k * d) (now (table .entry))
         ⌝ }
 {

@@ -4,13 +4,13 @@ use Prim.Native.Nat.{ℕ, _-_, _≤_}
 use native.Mathlib.Omega.{arith}
 use lib.ListN.{length}
 use Rattle.model.proofs.Loops.{filled, filled-none, filled-length, filled-next}
-use Rattle.build.specs.Build.{from}
+use Rattle.build.specs.Build.{nth}
 use borrow.Author.Needs.{needs}
 use Rattle.build.proofs.put_assignment.Statement.{statement}
 use Rattle.build.proofs.put_assignment.Tie as tie
 
 abbrev Inv-loop : tie.InvT-loop
-Inv-loop n domains assignment₀ i₀ assignment i = (i ≤ n) × (assignment ≡ filled i (from domains) assignment₀)
+Inv-loop n domains assignment₀ i₀ assignment i = (i ≤ n) × (assignment ≡ filled i (nth domains) assignment₀)
 
 abbrev μ-loop : tie.MeasureT-loop
 μ-loop n domains assignment₀ i₀ assignment i = n - i
@@ -25,7 +25,7 @@ slice-write-assignment : tie.Need-slice-write-assignment Inv-loop μ-loop
 slice-write-assignment c =
     let l = c .before .before .loop in
     let a = c .before .before .before .args in
-    let e = ap length (l .inv .1) ∙ filled-length (l .i) (from (a .domains .now)) (a .assignment .now) (omega arith) in
+    let e = ap length (l .inv .1) ∙ filled-length (l .i) (nth (a .domains .now)) (a .assignment .now) (omega arith) in
     omega (arith, e)
 
 add-i : tie.Need-add-i Inv-loop μ-loop
@@ -38,20 +38,20 @@ loop-again : tie.Need-loop-again Inv-loop μ-loop
 loop-again c =
     let l = c .before .before .loop in
     let a = c .before .before .before .args in
-    (omega arith, rw (l .inv .1) (filled-next (l .i) (from (a .domains .now)) (a .assignment .now) (omega arith)))
+    (omega arith, rw (l .inv .1) (filled-next (l .i) (nth (a .domains .now)) (a .assignment .now) (omega arith)))
 
 same-length : tie.Need-same-length Inv-loop μ-loop
 same-length c =
     let l = c .before .loop in
     let a = c .before .before .args in
-    ap length (l .inv .1) ∙ filled-length (l .i) (from (a .domains .now)) (a .assignment .now) (omega arith)
+    ap length (l .inv .1) ∙ filled-length (l .i) (nth (a .domains .now)) (a .assignment .now) (omega arith)
 
 returns : tie.Need-returns Inv-loop μ-loop
 returns c =
     let l = c .before .loop in
     let a = c .before .before .args in
     let e : l .i ≡ a .n = omega arith in
-    l .inv .1 ∙ ap (λ (i : ℕ). filled i (from (a .domains .now)) (a .assignment .now)) e
+    l .inv .1 ∙ ap (λ (i : ℕ). filled i (nth (a .domains .now)) (a .assignment .now)) e
 
 pub put-assignment-spec : {M : Type 1} → statement M
 put-assignment-spec =

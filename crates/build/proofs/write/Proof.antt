@@ -15,7 +15,6 @@ use Rattle.model.proofs.Below.{length-tab}
 use Rattle.model.proofs.Places.{Small, small}
 use Rattle.model.proofs.Groups.{tell-bad, tell-fine, held-bad, held-fine}
 use Rattle.model.proofs.Rules.{room-fine}
-use Rattle.build.specs.Build.{from}
 use borrow.Author.Needs.{needs}
 use Rattle.build.proofs.write.Tie as tie
 use Rattle.build.proofs.write.Statement.{statement}
