@@ -19,10 +19,8 @@ use Rattle.alike.specs.declared.Compared.{Compared}
 use Rattle.alike.specs.declared.Compared.the-variants.{Yes, No, Refused}
 use Rattle.alike.specs.Compare.{alikeRules, alikeTold, comparedTold}
 use Rattle.claims.specs.Alike.{AlikeAnswers, AlikeServes, AlikeUnique}
+use Rattle.claims.proofs.Ask.{one-nought}
 use Rattle.claims.proofs.Build.{whole-of}
-
-one-nought : values (1 ∷ []) ≡ values (0 ∷ []) → ⊥
-one-nought e = let z : _≡_ {A = ℕ} 0 1 = cc in omega arith
 
 -- what is told determines the answer
 told-apart : (r q : Compared) → comparedTold r ≡ comparedTold q → r ≡ q

@@ -24,7 +24,7 @@ use Rattle.ask.specs.Ask.{lookRules, askRules, askTold, askedTold}
 use Rattle.ask.proofs.Exits.{told, looks}
 use Rattle.claims.specs.Ask.{Serves, AskGrants, AskServes, AskAlone, AskUnique}
 
-one-nought : values (1 ∷ []) ≡ values (0 ∷ []) → ⊥
+pub one-nought : values (1 ∷ []) ≡ values (0 ∷ []) → ⊥
 one-nought e = let z : _≡_ {A = ℕ} 0 1 = cc in omega arith
 
 -- what is told determines the answer
