@@ -1,6 +1,6 @@
 -- The two groups of rules in a row, and what each exit of the call tells. Assumes nothing.
 use mathlib.Core.Path.{_≡_, sym}
-use mathlib.Core.Bool.{Bool, cond}
+use mathlib.Core.Bool.{true, false}
 use mathlib.Core.List.{List, [], _∷_}
 use Prim.Native.Nat.{ℕ, _<_}
 use Rattle.model.specs.declared.Refusal.{Refusal}
@@ -34,6 +34,10 @@ module _ (n k u v : ℕ) (m : List ℕ) where
         let (f, g) = groups-fine (wholeRules n k m) (pairRules n u v) e in
         (laid (whole-fine n k m f), pair-fine n u v g)
 
-    pub told-value : (b : Bool) → alike? n k (cell k n m) u v ≡ b → alikeTold n k u v m ≡ values (cond b 1 0 ∷ [])
+    pub told-yes : alike? n k (cell k n m) u v ≡ true → values (1 ∷ []) ≡ alikeTold n k u v m
     unfolding alikeTold
-    told-value b f = rw (e, f)
+    told-yes f = rw (e, f)
+
+    pub told-no : alike? n k (cell k n m) u v ≡ false → values (0 ∷ []) ≡ alikeTold n k u v m
+    unfolding alikeTold
+    told-no f = rw (e, f)

@@ -49,7 +49,7 @@ module _ (n k d : ℕ) (m s t s′ t′ : List ℕ) (b : Builds n k m s t (Domai
 
   accepted : (P : Policy) → P ≡ builtFrom n k m → (j : Judged) → Judges n k m P j → j ≡ Enforces d
   accepted P e j p = judge-accepts n k m P j p d .1 (
-    subst (λ (Q : Policy). Judgable n k m Q) (sym e) (judge-serves n k m (builtFrom n k m) (laid whole) (whole .sized .right)
+    subst (λ (Q : Policy). Judgable n k m Q) (sym e) (judge-serves n k m (builtFrom n k m) (laid whole)
         (λ i h. omega (arith, whole .cells .below i h)) few (built-valid n k (cell k n m) full)),
     subst (λ (Q : Policy). Agrees n k (cell k n m) (answer k Q)) (sym e) (built-enforces n k (cell k n m)),
     domains-told n k m s t s′ t′ d b ∙ ap (λ (Q : Policy). Q .domains) (sym e),

@@ -87,7 +87,7 @@ build-keeps n k m s t s′ t′ r b =
 
 pub whole-of : {n k : ℕ} {m : List ℕ} → Good n k m → Whole n k m
 whole-of g = record {
-  sized = record { entities = g .laid .entities; right = g .right; rights = g .laid .rights; domains = omega arith };
+  sized = record { entities = g .laid .entities; right = g .laid .right; rights = g .laid .rights; domains = omega arith };
   cells = record { long = g .laid .size; below = g .full };
 }
 

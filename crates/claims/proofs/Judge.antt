@@ -158,10 +158,10 @@ judge-conflicts n k m P r j i x = (
 
 pub judge-serves : JudgeServes
 unfolding judgeRules domainOf
-judge-serves n k m P L s c d ok =
+judge-serves n k m P L c d ok =
     let D = P .domains in
     let later = assignmentRules n D (P .assignment) ++ tableRules k D (P .table) in
-    group-fine (sizeRules n k D) (matrixRules n k m ++ later) (sizes-pass n k D (L .entities) s (L .rights) d)
+    group-fine (sizeRules n k D) (matrixRules n k m ++ later) (sizes-pass n k D (L .entities) (L .right) (L .rights) d)
     ∙ group-fine (matrixRules n k m) later (matrix-pass n k m (record { long = L .size; below = λ i h. omega (arith, c i h) }))
     ∙ group-fine (assignmentRules n D (P .assignment)) (tableRules k D (P .table))
     (assignment-pass n D (P .assignment) (record { long = ok .entities; below = λ i h. ok .below i (omega (arith, ok .entities)) }))

@@ -10,10 +10,9 @@ use Rattle.build.specs.declared.Built.{Built}
 use Rattle.build.specs.declared.Built.the-variants.{Domains, Refused}
 use Rattle.build.specs.Build.{builtFrom, tableSize, Builds}
 
--- m holds a full matrix of at most 64 entities and of 1 to 8 rights
+-- m holds a full matrix within the limits
 pub record Good (n k : ℕ) (m : List ℕ) : Type 0 where
   pub laid : Laid n k m
-  pub right : 0 < k
   pub full : (i : ℕ) → i < length m → getD m i 0 < 2
 
 -- the policy that stands in the first bytes of the two buffers

@@ -43,7 +43,7 @@ JudgeConflicts = (n k : ℕ) (m : List ℕ) (P : Policy) (r : Judged) → Judges
 
 -- no refusal applies to a matrix, full or not, and a policy within the limits
 abbrev pub JudgeServes : Type 0
-JudgeServes = (n k : ℕ) (m : List ℕ) (P : Policy) → Laid n k m → 0 < k → ((i : ℕ) → i < length m → getD m i 0 ≤ 2)
+JudgeServes = (n k : ℕ) (m : List ℕ) (P : Policy) → Laid n k m → ((i : ℕ) → i < length m → getD m i 0 ≤ 2)
     → P .domains ≤ 64 → Valid n k P → Judgable n k m P
 
 -- two answers that meet the promise are equal

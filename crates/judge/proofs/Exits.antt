@@ -57,7 +57,7 @@ module _ (n k : ℕ) (m : List ℕ) (P : Policy) where
       let assigned = assignment-fine n (P .domains) (P .assignment) e5 in
       let table = table-fine k (P .domains) (P .table) e7 in
       record {
-        matrix = record { entities = sized .entities; rights = sized .rights; size = cells .long };
+        matrix = record { entities = sized .entities; right = sized .right; rights = sized .rights; size = cells .long };
         few = sized .domains;
         policy = record {
           entities = assigned .long;

@@ -12,14 +12,16 @@ use Rattle.model.specs.Matrix.{cellAt, cell, Laid, rowOf}
 use Rattle.model.proofs.Slices.{part}
 use Rattle.model.proofs.Places.{small}
 
--- the row of u lies inside the matrix, which is small
+-- the row of u holds a right's cells at least, and lies inside the matrix, which is small
 pub record Inside (k n u len : ℕ) : Type 0 where
+  pub some : n ≤ k * n
   pub row : k * n ≤ 512
   pub ends : u * (k * n) + k * n ≤ len
   pub few : len ≤ 32768
 
 pub inside : {n k u : ℕ} {m : List ℕ} → Laid n k m → u < n → Inside k n u (length m)
 inside {n} {k} {u} {m} L h = record {
+  some = omega (arith, mul-le-mul-right n (L .right));
   row = mul-le-mul (L .rights) (L .entities);
   ends = omega (arith, mul-le-mul-right (k * n) h, suc-mul u (k * n), mul-assoc n k n, L .size);
   few = omega (arith, small (L .entities) (L .rights) (L .entities) .cells, L .size);

@@ -222,7 +222,7 @@ whole-pass n k m w =
     ∙ full-pass n k m F
 
 pub laid : {n k : ℕ} {m : List ℕ} → Whole n k m → Laid n k m
-laid w = record { entities = w .sized .entities; rights = w .sized .rights; size = w .cells .long }
+laid w = record { entities = w .sized .entities; right = w .sized .right; rights = w .sized .rights; size = w .cells .long }
 
 -- so no cell is unlogged
 pub whole-full : {n k : ℕ} {m : List ℕ} → Whole n k m → Full n k (cell k n m)

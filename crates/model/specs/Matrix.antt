@@ -19,6 +19,7 @@ cell k y m u a v = getD m (cellAt k y u a v) 0
 -- m has the cells of n entities and k rights, within the limits
 pub record Laid (n k : ℕ) (m : List ℕ) : Type 0 where
   pub entities : n ≤ 64
+  pub right : 0 < k
   pub rights : k ≤ 8
   pub size : length m ≡ n * k * n
 

@@ -7,7 +7,7 @@ use Rattle.model.specs.Matrix.{cell}
 use Rattle.model.specs.Alike.{alike?}
 use Rattle.model.specs.Refusal.{checked}
 use Rattle.alike.specs.Compare.{alikeRules}
-use Rattle.alike.proofs.Told.{fits, told-refused, told-value}
+use Rattle.alike.proofs.Told.{fits, told-refused, told-yes, told-no}
 use borrow.Author.Needs.{needs}
 use Rattle.alike.proofs.alike.Tie as tie
 use Rattle.alike.proofs.alike.Statement.{statement}
@@ -48,12 +48,12 @@ same-requires c κs = let x = c .before .before .before .before .args in fits (x
 returns-2 : tie.Need-returns-2
 returns-2 c =
     let x = c .before .before .before .before .before .before .args in
-    rw (told-value (x .n) (x .k) (x .u) (x .v) (x .matrix .now) (fine (c .before .before)) true (told (c .before) ∙ c .if1 .taken))
+    told-yes (x .n) (x .k) (x .u) (x .v) (x .matrix .now) (fine (c .before .before)) (told (c .before) ∙ c .if1 .taken)
 
 returns-3 : tie.Need-returns-3
 returns-3 c =
     let x = c .before .before .before .before .before .before .args in
-    rw (told-value (x .n) (x .k) (x .u) (x .v) (x .matrix .now) (fine (c .before .before)) false (told (c .before) ∙ c .if1 .left))
+    told-no (x .n) (x .k) (x .u) (x .v) (x .matrix .now) (fine (c .before .before)) (told (c .before) ∙ c .if1 .left)
 
 pub alike-spec : {M : Type 1} → statement M
 alike-spec =

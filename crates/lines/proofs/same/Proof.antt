@@ -19,13 +19,13 @@ mul-row : tie.Need-mul-row
 mul-row c = omega (arith, rows (c .before) .0 .row)
 
 mul-i : tie.Need-mul-i
-mul-i c = let w = rows (c .before) in omega (arith, w .0 .ends, w .1 .ends, w .0 .few)
+mul-i c = let w = rows (c .before) in omega (arith, w .0 .ends, w .1 .ends, w .0 .some, w .0 .few)
 
 mul-j : tie.Need-mul-j
-mul-j c = let w = rows (c .before) in omega (arith, w .0 .ends, w .1 .ends, w .0 .few)
+mul-j c = let w = rows (c .before) in omega (arith, w .0 .ends, w .1 .ends, w .0 .some, w .0 .few)
 
 add-same-row : tie.Need-add-same-row
-add-same-row c = let w = rows (c .before) in omega (arith, w .0 .ends, w .1 .ends, w .0 .few)
+add-same-row c = let w = rows (c .before) in omega (arith, w .0 .ends, w .1 .ends, w .0 .some, w .0 .few)
 
 sub-same-row : tie.Need-sub-same-row
 sub-same-row c = search needs
@@ -34,10 +34,10 @@ part-same-row-start : tie.Need-part-same-row-start
 part-same-row-start c = search needs
 
 part-same-row-end : tie.Need-part-same-row-end
-part-same-row-end c = let w = rows (c .before) in omega (arith, w .0 .ends, w .1 .ends)
+part-same-row-end c = let w = rows (c .before) in omega (arith, w .0 .ends, w .1 .ends, w .0 .some)
 
 add-same-row-2 : tie.Need-add-same-row-2
-add-same-row-2 c = let w = rows (c .before .before) in omega (arith, w .0 .ends, w .1 .ends, w .0 .few)
+add-same-row-2 c = let w = rows (c .before .before) in omega (arith, w .0 .ends, w .1 .ends, w .0 .some, w .0 .few)
 
 sub-same-row-2 : tie.Need-sub-same-row-2
 sub-same-row-2 c = search needs
@@ -46,7 +46,7 @@ part-same-row-start-2 : tie.Need-part-same-row-start-2
 part-same-row-start-2 c = search needs
 
 part-same-row-end-2 : tie.Need-part-same-row-end-2
-part-same-row-end-2 c = let w = rows (c .before .before) in omega (arith, w .0 .ends, w .1 .ends)
+part-same-row-end-2 c = let w = rows (c .before .before) in omega (arith, w .0 .ends, w .1 .ends, w .0 .some)
 
 same-row-requires : tie.Need-same-row-requires
 same-row-requires c κs = search needs
