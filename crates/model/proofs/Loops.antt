@@ -1,8 +1,8 @@
--- What a loop over i in rising order needs: its invariant is an equation, `all i p ≡ true` (every one so far passes), `first i p ≡ i`
--- (none so far does), or a buffer whose first i bytes are filled. Assumes nothing.
+-- What a loop over i in rising order needs: its invariant is an equation, `all i p ≡ true` (every one so far passes), `b ≡ any i p`
+-- (whether one so far does), `first i p ≡ i` (none so far does), or a buffer whose first i bytes are filled. Assumes nothing.
 use mathlib.Core.Path.{_≡_, refl, sym, ap, _∙_, subst}
 use mathlib.Core.Logic.{_⊎_, inl, inr}
-use mathlib.Core.Bool.{Bool, true, false}
+use mathlib.Core.Bool.{Bool, true, false, _||_}
 use mathlib.Core.List.{List, [], _∷_, _++_}
 use Prim.Native.Nat.{ℕ, zero, suc, _+_, _-_, _≤_, _<_}
 use native.Mathlib.Numerals.{add-one}
@@ -10,7 +10,7 @@ use native.Mathlib.Omega.{arith}
 use lib.Dec.{T}
 use lib.ListN.{length, getD, drop, set, length-append, length-drop, length-set, List·getD-append}
 use lib.Seq.{drop-cons, append-snoc, set-at}
-use Rattle.model.specs.Below.{all, first, tab}
+use Rattle.model.specs.Below.{all, any, first, tab}
 use Rattle.model.proofs.Tests.{false-of}
 use Rattle.model.proofs.Below.{below-suc, all-at, first-is, first-none, first-before, length-tab, getD-tab}
 
@@ -26,6 +26,22 @@ all-next i p e f = rw (add-one, f) e
 
 pub all-fails : (n i : ℕ) (p : ℕ → Bool) → i < n → p i ≡ false → all n p ≡ false
 all-fails n i p h e = false-of (all n p) (λ t. subst T e (all-at n p t i h))
+
+-- ---- whether one passes
+
+pub any-none : (p : ℕ → Bool) → any 0 p ≡ false
+unfolding any
+any-none p = refl
+
+pub any-next : (p : ℕ → Bool) (i : ℕ) (b : Bool) → b ≡ any i p → (b || p i) ≡ any (i + 1) p
+unfolding any
+any-next p i b e = rw (e, add-one) (or-comm (any i p) (p i))
+  where
+    or-comm : (a b : Bool) → (a || b) ≡ (b || a)
+    or-comm true true = refl
+    or-comm true false = refl
+    or-comm false true = refl
+    or-comm false false = refl
 
 -- ---- the first that passes
 
@@ -61,7 +77,7 @@ filled-length i f l h = rw (length-append, length-tab, length-drop) (omega arith
 pub filled-at : (i : ℕ) (f : ℕ → ℕ) (l : List ℕ) (j : ℕ) → j < i → getD (filled i f l) j 0 ≡ f j
 filled-at i f l j h = List·getD-append (tab i f) (drop i l) 0 j (rw length-tab h) ∙ getD-tab i f j h
 
-tab-snoc : (i : ℕ) (f : ℕ → ℕ) → tab (suc i) f ≡ tab i f ++ (f i ∷ [])
+pub tab-snoc : (i : ℕ) (f : ℕ → ℕ) → tab (suc i) f ≡ tab i f ++ (f i ∷ [])
 unfolding tab
 tab-snoc zero f = refl
 tab-snoc (suc i) f = ap (λ t. f zero ∷ t) (tab-snoc i (λ j. f (suc j)))

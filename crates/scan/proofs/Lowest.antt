@@ -1,12 +1,11 @@
 -- Laws of the scan. Up to a place i no byte passes: `any i (at p s) ≡ false`. One byte more, or one block more, keeps that or finds
 -- the lowest place. Assumes nothing.
-use mathlib.Core.Path.{_≡_, refl, sym, ap, _∙_, subst}
-use mathlib.Core.Bool.{Bool, true, false, _||_}
+use mathlib.Core.Path.{_≡_, sym, ap, _∙_, subst}
+use mathlib.Core.Bool.{Bool, true, false}
 use mathlib.Core.List.{List}
 use Prim.Native.Nat.{ℕ, _+_, _-_, _≤_, _<_}
 use native.Mathlib.Nat.{le-refl}
 use native.Mathlib.Decide.{decLt}
-use native.Mathlib.Numerals.{add-one}
 use native.Mathlib.Omega.{arith}
 use lib.Dec.{T, leb, leb→le}
 use lib.ListN.{length, getD}
@@ -18,20 +17,6 @@ use Rattle.model.proofs.Below.{first-is, first-of, first-none, first-before, fi
 
 abbrev pub at : (ℕ → Bool) → List ℕ → ℕ → Bool
 at p s i = p (getD s i 0)
-
-pub passed-none : (p : ℕ → Bool) → any 0 p ≡ false
-unfolding any
-passed-none p = refl
-
-pub passed-next : (p : ℕ → Bool) (i : ℕ) (b : Bool) → b ≡ any i p → (b || p i) ≡ any (i + 1) p
-unfolding any
-passed-next p i b e = rw (e, add-one) (or-comm (any i p) (p i))
-  where
-    or-comm : (a b : Bool) → (a || b) ≡ (b || a)
-    or-comm true true = refl
-    or-comm true false = refl
-    or-comm false true = refl
-    or-comm false false = refl
 
 -- none of the first i passes
 pub passed-not : (p : ℕ → Bool) (i : ℕ) → any i p ≡ false → (j : ℕ) → j < i → ¬ T (p j)

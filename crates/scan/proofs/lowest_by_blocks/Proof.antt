@@ -10,7 +10,8 @@ use lib.ListN.{length}
 use Rattle.model.specs.Below.{any}
 use Rattle.model.specs.Rules.{lowest}
 use Rattle.model.proofs.Slices.{part, part-length}
-use Rattle.scan.proofs.Lowest.{at, passed-none, block-none, block-some, lowest-end, lowest-le}
+use Rattle.model.proofs.Loops.{any-none}
+use Rattle.scan.proofs.Lowest.{at, block-none, block-some, lowest-end, lowest-le}
 use Rattle.scan.proofs.lowest_by_blocks.Statement.{statement}
 use Rattle.scan.proofs.lowest_by_blocks.Tie as tie
 
@@ -34,7 +35,7 @@ found c =
     (sym (c .before .before .before .reaches .ensures) ∙ c .before .before .if1 .taken)
 
 loop-holds : tie.Need-loop-holds Inv-loop μ-loop
-loop-holds c = (omega arith, passed-none (at (leb (c .before .args .b)) (c .before .args .s .now)))
+loop-holds c = (omega arith, any-none (at (leb (c .before .args .b)) (c .before .args .s .now)))
 
 block-end-requires : tie.Need-block-end-requires Inv-loop μ-loop
 block-end-requires c κs = search needs

@@ -8,7 +8,8 @@ use borrow.Author.Tests.{le-leb, lt-leb}
 use lib.Dec.{leb}
 use lib.ListN.{length, getD}
 use Rattle.model.specs.Below.{any}
-use Rattle.scan.proofs.Lowest.{at, passed-none, passed-next, lowest-here, lowest-end}
+use Rattle.model.proofs.Loops.{any-none, any-next}
+use Rattle.scan.proofs.Lowest.{at, lowest-here, lowest-end}
 use Rattle.scan.proofs.lowest_in.Statement.{statement}
 use Rattle.scan.proofs.lowest_in.Tie as tie
 
@@ -19,7 +20,7 @@ abbrev μ-loop : tie.MeasureT-loop
 μ-loop s b i₀ i = length s - i
 
 loop-holds : tie.Need-loop-holds Inv-loop μ-loop
-loop-holds c = (omega arith, passed-none (at (leb (c .args .b)) (c .args .s .now)))
+loop-holds c = (omega arith, any-none (at (leb (c .args .b)) (c .args .s .now)))
 
 shared-slice-read-if1 : tie.Need-shared-slice-read-if1 Inv-loop μ-loop
 shared-slice-read-if1 c = search needs
@@ -42,7 +43,7 @@ loop-again c =
     let a = c .before .before .before .before .args in
     let loop = c .before .before .before .loop in
     let passed = lt-leb (a .b) (getD (a .s .now) (loop .i) 0) (omega arith) in
-    (omega arith, sym (passed-next (at (leb (a .b)) (a .s .now)) (loop .i) _ (sym (loop .inv .1))) ∙ passed)
+    (omega arith, sym (any-next (at (leb (a .b)) (a .s .now)) (loop .i) _ (sym (loop .inv .1))) ∙ passed)
 
 returns-2 : tie.Need-returns-2 Inv-loop μ-loop
 returns-2 c = lowest-end _ _ _ (omega arith) (c .before .loop .inv .1)

@@ -6,7 +6,8 @@ use native.Mathlib.Omega.{arith}
 use lib.Dec.{leb}
 use lib.ListN.{length}
 use Rattle.model.specs.Below.{any}
-use Rattle.scan.proofs.Lowest.{at, passed-none, passed-next}
+use Rattle.model.proofs.Loops.{any-none, any-next}
+use Rattle.scan.proofs.Lowest.{at}
 use Rattle.scan.proofs.reaches.Statement.{statement}
 use Rattle.scan.proofs.reaches.Tie as tie
 
@@ -17,7 +18,7 @@ abbrev μ-loop : tie.MeasureT-loop
 μ-loop s b found₀ i₀ found i = length s - i
 
 loop-holds : tie.Need-loop-holds Inv-loop μ-loop
-loop-holds c = (omega arith, sym (passed-none (at (leb (c .args .b)) (c .args .s .now))))
+loop-holds c = (omega arith, sym (any-none (at (leb (c .args .b)) (c .args .s .now))))
 
 shared-slice-read-found : tie.Need-shared-slice-read-found Inv-loop μ-loop
 shared-slice-read-found c = search needs
@@ -29,7 +30,7 @@ loop-less : tie.Need-loop-less Inv-loop μ-loop
 loop-less c = search needs
 
 loop-again : tie.Need-loop-again Inv-loop μ-loop
-loop-again c = (omega arith, passed-next _ _ _ (c .before .before .loop .inv .1))
+loop-again c = (omega arith, any-next _ _ _ (c .before .before .loop .inv .1))
 
 returns : tie.Need-returns Inv-loop μ-loop
 returns c = let e : c .before .loop .i ≡ length (c .before .before .args .s .now) = omega arith in rw e at (c .before .loop .inv .1)

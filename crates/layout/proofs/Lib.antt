@@ -1,0 +1,9 @@
+pub mod Each
+pub mod Places
+pub mod Pieces
+pub mod Rows
+pub mod Files
+pub mod Contents
+pub mod Cuts
+pub mod Stops
+pub mod Puts

@@ -1,0 +1,301 @@
+// The pieces of a file, read. A reader answers a place: the piece's end, or the first byte that does not fit it. Nothing is filled before
+// the whole file is known to fit.
+ghost use mathlib.Core.Path.{_≡_};
+ghost use Prim.Native.Nat.{_+_, _*_, _≤_, _<_};
+ghost use lib.Dec.{leb};
+ghost use lib.ListN.{length, getD, drop};
+ghost use lib.Seq.{sets};
+ghost use Rattle.model.specs.Below.{any, tab};
+ghost use Rattle.layout.specs.Text.{each};
+ghost use Rattle.layout.specs.Layout.{reach, Piece, Value, Sizes, digitOf, cellOf, digitAt, numberAt, rowAt};
+ghost use Rattle.layout.specs.Layout.{text, digit, number, cells, numbers, recordOf, records, close};
+
+// The value of a digit, and 10 of any other byte.
+fn digit_of(x: u8) -> usize
+    ensures { λ r. ⌜ r ≡ digitOf x ⌝ }
+{
+    if x < 48 {
+        return 10;
+    }
+    if 57 < x {
+        return 10;
+    }
+    x as usize - 48
+}
+
+// The value of a cell's character, and 3 of any other byte.
+fn cell_of(x: u8) -> u8
+    ensures { λ r. ⌜ r ≡ cellOf x ⌝ }
+{
+    if x == 48 {
+        0
+    } else if x == 49 {
+        1
+    } else if x == 42 {
+        2
+    } else {
+        3
+    }
+}
+
+// The digit at a place.
+pub fn digit_at(s: &[u8], at: usize) -> usize
+    requires { ⌜ at < length (now s) ⌝ }
+    ensures { λ r. ⌜ r ≡ digitAt (now (s .entry)) at ⌝ }
+    ensures { λ r. ⌜ r ≤ 10 ⌝ }
+{
+    digit_of(s[at])
+}
+
+// The number of two digits at a place.
+pub fn number_at(s: &[u8], at: usize) -> usize
+    requires { ⌜ at + 1 < length (now s) ⌝ }
+    ensures { λ r. ⌜ r ≡ numberAt (now (s .entry)) at ⌝ }
+    ensures { λ r. ⌜ r ≤ 110 ⌝ }
+{
+    digit_at(s, at) * 10 + digit_at(s, at + 1)
+}
+
+// These bytes.
+pub fn read_text(s: &[u8], at: usize, mark: &[u8]) -> usize
+    requires { ⌜ at ≤ length (now s) ⌝ }
+    ensures { λ r. ⌜ Piece (now (s .entry)) at (at + length (now (mark .entry))) r (text (now (mark .entry))) ⌝ }
+{
+    let mut i = 0;
+    while i < mark.len() {
+        if s.len() - at <= i {
+            return at + i;
+        }
+        if s[at + i] != mark[i] {
+            return at + i;
+        }
+        i += 1;
+    }
+    at + i
+}
+
+// A digit from lo on and below hi.
+pub fn read_digit(s: &[u8], at: usize, lo: usize, hi: usize) -> usize
+    requires { ⌜ at ≤ length (now s) ⌝ }
+    ensures { λ r. ⌜ Value (now (s .entry)) at (at + 1) r (digit lo hi) lo hi (digitAt (now (s .entry)) at) ⌝ }
+{
+    if s.len() <= at {
+        return at;
+    }
+    let x = digit_of(s[at]);
+    if x < lo {
+        return at;
+    }
+    if hi <= x {
+        return at;
+    }
+    at + 1
+}
+
+// A number of two digits, from lo on and below hi.
+pub fn read_number(s: &[u8], at: usize, lo: usize, hi: usize) -> usize
+    requires { ⌜ at ≤ length (now s) ⌝ }
+    ensures { λ r. ⌜ Value (now (s .entry)) at (at + 2) r (number lo hi) lo hi (numberAt (now (s .entry)) at) ⌝ }
+{
+    if s.len() <= at {
+        return at;
+    }
+    let ten = digit_of(s[at]) * 10;
+    if hi <= ten {
+        return at;
+    }
+    if ten + 10 <= lo {
+        return at;
+    }
+    let next = at + 1;
+    if s.len() <= next {
+        return next;
+    }
+    let unit = digit_of(s[next]);
+    if 10 <= unit {
+        return next;
+    }
+    if ten + unit < lo {
+        return next;
+    }
+    if hi <= ten + unit {
+        return next;
+    }
+    next + 1
+}
+
+// n numbers below hi.
+pub fn read_numbers(s: &[u8], at: usize, hi: usize, n: usize) -> usize
+    requires { ⌜ (at ≤ length (now s)) × (n ≤ 64) ⌝ }
+    ensures { λ r. ⌜ Piece (now (s .entry)) at (at + n * 2) r (numbers hi n) ⌝ }
+{
+    let mut p = at;
+    let mut u = 0;
+    while u < n {
+        let r = read_number(s, p, 0, hi);
+        if r < p + 2 {
+            return r;
+        }
+        p = r;
+        u += 1;
+    }
+    p
+}
+
+// Whether some byte is no character of a cell below lim. There is no branch inside, so that the compiler takes many bytes at a time.
+fn strays(s: &[u8], lim: u8) -> bool
+    ensures { λ r. ⌜ r ≡ any (length (now (s .entry))) (λ i. leb lim (cellOf (getD (now (s .entry)) i 0))) ⌝ }
+{
+    let mut found = false;
+    let mut i = 0;
+    while i < s.len() {
+        found = found | (lim <= cell_of(s[i]));
+        i += 1;
+    }
+    found
+}
+
+// Where w bytes from `at` on end, if there are so many.
+fn piece_end(at: usize, w: usize, end: usize) -> usize
+    requires { ⌜ at ≤ end ⌝ }
+    ensures { λ r. ⌜ (at ≤ r) × (r ≤ end) × (r ≤ at + w) × (r < at + w → r ≡ end) ⌝ }
+{
+    if end - at < w { end } else { at + w }
+}
+
+// w cells below lim. Only where some byte is no such cell they are looked through one by one.
+pub fn read_cells(s: &[u8], at: usize, lim: u8, w: usize) -> usize
+    requires { ⌜ at ≤ length (now s) ⌝ }
+    ensures { λ r. ⌜ Piece (now (s .entry)) at (at + w) r (cells lim w) ⌝ }
+{
+    let e = piece_end(at, w, s.len());
+    if !strays(&s[at..e], lim) {
+        return e;
+    }
+    let mut p = at;
+    while p < e {
+        if lim <= cell_of(s[p]) {
+            return p;
+        }
+        p += 1;
+    }
+    e
+}
+
+// Record u: a mark, u, w cells below lim, a line feed.
+pub fn read_record(s: &[u8], at: usize, mark: &[u8], lim: u8, w: usize, u: usize) -> usize
+    requires { ⌜ (at ≤ length (now s)) × (length (now mark) ≡ 2) × (u < 100) × (w ≤ 512) ⌝ }
+    ensures { λ r. ⌜ Piece (now (s .entry)) at (at + (w + 5)) r (recordOf (now (mark .entry)) lim w u) ⌝ }
+{
+    let named = read_text(s, at, mark);
+    if named < at + 2 {
+        return named;
+    }
+    let numbered = read_number(s, named, u, u + 1);
+    if numbered < named + 2 {
+        return numbered;
+    }
+    let filled = read_cells(s, numbered, lim, w);
+    if filled < numbered + w {
+        return filled;
+    }
+    read_text(s, filled, b"\n")
+}
+
+// c records of w cells below lim each.
+pub fn read_records(s: &[u8], at: usize, mark: &[u8], lim: u8, w: usize, c: usize) -> usize
+    requires { ⌜ (at ≤ length (now s)) × (length (now mark) ≡ 2) × (c ≤ 64) × (w ≤ 512) ⌝ }
+    ensures { λ r. ⌜ Piece (now (s .entry)) at (at + c * (w + 5)) r (records (now (mark .entry)) lim w c) ⌝ }
+{
+    let mut p = at;
+    let mut u = 0;
+    while u < c {
+        let r = read_record(s, p, mark, lim, w, u);
+        if r < p + (w + 5) {
+            return r;
+        }
+        p = r;
+        u += 1;
+    }
+    p
+}
+
+// A mark, the number of entities, that of rights.
+pub fn read_sizes(s: &[u8], mark: &[u8]) -> usize
+    requires { ⌜ length (now mark) ≡ 2 ⌝ }
+    ensures { λ r. ⌜ Sizes (now (s .entry)) r (now (mark .entry)) (numberAt (now (s .entry)) 2) (digitAt (now (s .entry)) 4) ⌝ }
+{
+    let named = read_text(s, 0, mark);
+    if named < 2 {
+        return named;
+    }
+    let entities = read_number(s, 2, 0, 65);
+    if entities < 4 {
+        return entities;
+    }
+    read_digit(s, 4, 1, 9)
+}
+
+// The last line, with nothing behind it: past the file's end where that is so.
+pub fn read_close(s: &[u8], at: usize) -> usize
+    requires { ⌜ at ≤ length (now s) ⌝ }
+    ensures { λ r. ⌜ r ≡ at + reach close (drop at (now (s .entry))) ⌝ }
+{
+    let marked = read_text(s, at, b"ZZ");
+    if marked < at + 2 {
+        return marked;
+    }
+    let closed = read_text(s, marked, b"\n");
+    if closed < marked + 1 {
+        return closed;
+    }
+    if closed < s.len() {
+        return closed;
+    }
+    closed + 1
+}
+
+// ---- the fills, once the file is known to fit
+
+// The values of w cells from `at` on, to `out` from `to` on.
+pub fn fill_cells(s: &[u8], at: usize, w: usize, out: &mut [u8], to: usize)
+    requires { ⌜ (at + w ≤ length (now s)) × (to + w ≤ length (now out)) ⌝ }
+    ensures { λ _. ⌜ now (out .exit) ≡ sets (now (out .entry)) to (tab w (λ i. cellOf (getD (now (s .entry)) (at + i) 0))) ⌝ }
+{
+    let mut i = 0;
+    while i < w {
+        out[to + i] = cell_of(s[at + i]);
+        i += 1;
+    }
+}
+
+// The values of the cells of c records.
+pub fn fill_records(s: &[u8], at: usize, w: usize, c: usize, out: &mut [u8])
+    requires { ⌜ (at + c * (w + 5) ≤ length (now s)) × (c * w ≤ length (now out)) ⌝ }
+    ensures { λ _. ⌜
+        now (out .exit)
+        ≡ sets (now (out .entry)) 0 (each c (rowAt (now (s .entry)) at w))
+        ⌝ }
+{
+    let mut from = at;
+    let mut to = 0;
+    let mut u = 0;
+    while u < c {
+        fill_cells(s, from + 4, w, out, to);
+        from += w + 5;
+        to += w;
+        u += 1;
+    }
+}
+
+// The values of n numbers.
+pub fn fill_numbers(s: &[u8], at: usize, n: usize, out: &mut [u8])
+    requires { ⌜ (at + n * 2 ≤ length (now s)) × (n ≤ length (now out)) ⌝ }
+    ensures { λ _. ⌜ now (out .exit) ≡ sets (now (out .entry)) 0 (tab n (λ u. numberAt (now (s .entry)) (at + u * 2))) ⌝ }
+{
+    let mut u = 0;
+    while u < n {
+        out[u] = number_at(s, at + u * 2) as u8;
+        u += 1;
+    }
+}
