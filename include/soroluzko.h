@@ -11,6 +11,19 @@
  * Two entities u and v of a full matrix are alike if for every right a the cells (u, a, u), (u, a, v), (v, a, u) and (v, a, v) are
  * equal, and (u, a, x) equals (v, a, x) and (x, a, u) equals (x, a, v) for every other x.
  *
+ * A matrix or a policy also stands as a file, in ASCII lines that each end with one line feed (byte 10). A line begins with a mark of two
+ * bytes, and there is no other spacing. Numbers are decimal with leading zeros. Cells are the characters 0, 1 and, in a matrix only, *
+ * for 2. Where 0 and 1 may send to 2:
+ *
+ *     MX031      n in two digits, k in one          PD03102     n in two digits, k in one, d in two
+ *     RW00001    u in two digits, its k*n cells     AS000001    the domains of the entities, two digits each
+ *     RW01001    .. for each entity u in order      TB0001      p in two digits, its k*d cells
+ *     RW02000                                       TB0100      .. for each domain p in order
+ *     ZZ         nothing follows                    ZZ          nothing follows
+ *
+ * The limits are as above. Every entity has a domain, so d is 0 only where n is 0; the AS line stands even then. The file of a matrix
+ * has 9 + n*(k*n + 5) bytes, at most 33097, that of a policy 14 + 2*n + d*(k*d + 5), at most 33230.
+ *
  * Every call answers all numbers and all bytes, by one word; the low byte is the refusal's number, 0 where there is none:
  *
  *     bits 0-7   number of the refusal, or 0
@@ -71,6 +84,14 @@ static inline size_t soroluzko_enforces_domains(uint64_t answer) { return (size_
 /* The cell of the first conflict and the value logged there. They have a meaning only where soroluzko_conflict. */
 static inline size_t soroluzko_conflict_cell(uint64_t answer) { return (size_t)(answer >> 16 & 0xffff); }
 static inline uint8_t soroluzko_conflict_logged(uint64_t answer) { return (uint8_t)(answer >> 32 & 0xff); }
+
+/* What a file that was read has: n and k, and d of a policy's. They have a meaning only where not soroluzko_refused. */
+static inline size_t soroluzko_read_n(uint64_t answer) { return (size_t)(answer >> 8 & 0xff); }
+static inline size_t soroluzko_read_k(uint64_t answer) { return (size_t)(answer >> 16 & 0xff); }
+static inline size_t soroluzko_read_d(uint64_t answer) { return (size_t)(answer >> 24 & 0xff); }
+
+/* The length of a file that was written. It has a meaning only where not soroluzko_refused. */
+static inline size_t soroluzko_file_length(uint64_t answer) { return (size_t)(answer >> 8 & 0xffffff); }
 
 /* A policy and a request. Name the members where you fill them in (.n = 3, .k = 1, ..), so that no two numbers are exchanged. */
 
@@ -165,6 +186,77 @@ uint64_t soroluzko_judge(size_t n, size_t k, size_t d, const uint8_t *matrix, si
 /* The same, of a policy. */
 static inline uint64_t soroluzko_policy_judge(const struct soroluzko_policy *p, const uint8_t *matrix, size_t matrix_length) {
     return soroluzko_judge(p->n, p->k, p->d, matrix, matrix_length, p->assignment, p->assignment_length, p->table, p->table_length);
+}
+
+/*
+ * Read a matrix: the matrix of a whole file.
+ *
+ * Bits 8-15 are n and bits 16-23 are k. The first n*k*n bytes of matrix are the file's matrix, 0, 1 and 2 for the characters 0, 1 and *.
+ * Later bytes stay as they were. Refused, by the first of these that applies, and then all bytes of the buffer stay as they were:
+ *
+ *     12  the bytes are no file of a matrix (place: the number of leading bytes that they share with some file of a matrix, at the most)
+ *     11  matrix_length is below n*k*n (place n*k*n)
+ *
+ * So a file that is cut short is refused at its length, one with bytes behind its last line where they begin, and MX65 at 3. The buffer
+ * must not overlap the file. 32768 bytes are enough for every file.
+ */
+uint64_t soroluzko_read_matrix(const uint8_t *file, size_t file_length, uint8_t *matrix, size_t matrix_length);
+
+/*
+ * Read a policy: the policy of a whole file.
+ *
+ * Bits 8-15 are n, bits 16-23 are k and bits 24-31 are d. The first n bytes of assignment are the domains of the entities, and the first
+ * d*k*d bytes of table are the table. Later bytes of both buffers stay as they were. Refused, by the first of these that applies, and
+ * then all bytes of both buffers stay as they were:
+ *
+ *     12  the bytes are no file of a policy (place: the number of leading bytes that they share with some file of a policy, at the most)
+ *     10  assignment_length is below n (place n)
+ *     11  table_length is below d*k*d (place d*k*d)
+ *
+ * So PD03100 is refused at 6, since no domain is below 0. The two buffers must not overlap each other, nor the file. 64 and 32768 bytes
+ * are enough for every file.
+ */
+uint64_t soroluzko_read_policy(const uint8_t *file, size_t file_length,
+                               uint8_t *assignment, size_t assignment_length, uint8_t *table, size_t table_length);
+
+/*
+ * Write a matrix, full or not: its file.
+ *
+ * Bits 8-31 are the file's length, 9 + n*(k*n + 5). The first so many bytes of file are the matrix's file; soroluzko_read_matrix reads
+ * n, k and the matrix from them. Later bytes stay as they were. Refused, by the first of these that applies, and then all bytes of the
+ * buffer stay as they were:
+ *
+ *      1  n above 64 (place 0); k 0 or above 8 (place 1)
+ *      2  matrix_length is not n*k*n (place 0)
+ *      3  a cell is above 2 (place: the lowest such cell)
+ *     11  file_length is below the file's length (place: the file's length)
+ *
+ * The buffer must not overlap the matrix. 33097 bytes are enough for every matrix.
+ */
+uint64_t soroluzko_write_matrix(size_t n, size_t k, const uint8_t *matrix, size_t matrix_length, uint8_t *file, size_t file_length);
+
+/*
+ * Write a policy: its file.
+ *
+ * Bits 8-31 are the file's length, 14 + 2*n + d*(k*d + 5). The first so many bytes of file are the policy's file; soroluzko_read_policy
+ * reads n, k, d, the assignment and the table from them. Later bytes stay as they were. Refused, by the first of these that applies, and
+ * then all bytes of the buffer stay as they were:
+ *
+ *      1  n above 64 (place 0); k 0 or above 8 (place 1); d above 64 (place 2)
+ *      5  assignment_length is not n (place 0)
+ *      6  a domain is not below d (place: the lowest such entity)
+ *      7  table_length is not d*k*d (place 0)
+ *      8  a cell of the table is above 1 (place: the lowest such cell)
+ *     11  file_length is below the file's length (place: the file's length)
+ *
+ * The buffer must overlap neither the assignment nor the table. 33230 bytes are enough for every policy.
+ */
+uint64_t soroluzko_write_policy(size_t n, size_t k, size_t d, const uint8_t *assignment, size_t assignment_length,
+                                const uint8_t *table, size_t table_length, uint8_t *file, size_t file_length);
+
+/* The same, of a policy. */
+static inline uint64_t soroluzko_policy_write(const struct soroluzko_policy *p, uint8_t *file, size_t file_length) {
+    return soroluzko_write_policy(p->n, p->k, p->d, p->assignment, p->assignment_length, p->table, p->table_length, file, file_length);
 }
 
 #ifdef __cplusplus

@@ -1,8 +1,9 @@
-//! Times soroluzko_build and soroluzko_judge against plain.rs, which makes the same tests: the same bytes, turn about in short rounds,
-//! both optimised. Prints the medians of microseconds a call and of the rounds' ratios. First the answers and all bytes of the buffers
-//! are compared, and a difference ends the program.
+//! Times soroluzko_build, soroluzko_judge and, in files.rs, the calls on files against plain.rs, which makes the same tests: the same
+//! bytes, turn about in short rounds, both optimised. Prints the medians of microseconds a call and of the rounds' ratios. First the
+//! answers and all bytes of the buffers are compared, and a difference ends the program.
 //!
 //!     calls [ROUNDS]
+mod files;
 mod plain;
 
 use plain::{Judged, Refusal};
@@ -112,8 +113,8 @@ fn micros(calls: usize, f: &mut dyn FnMut() -> u64) -> f64 {
     start.elapsed().as_secs_f64() * 1e6 / calls as f64
 }
 
-/// One row: rounds of about 100 microseconds each, who comes first by turns.
-fn row(rounds: usize, call: &str, label: &str, says: String, proved: &mut dyn FnMut() -> u64, plain: &mut dyn FnMut() -> u64) {
+/// The medians of both and of the ratios: rounds of about 100 microseconds each, who comes first by turns.
+fn medians(rounds: usize, proved: &mut dyn FnMut() -> u64, plain: &mut dyn FnMut() -> u64) -> (f64, f64, f64) {
     let once = micros(20, proved).max(micros(20, plain));
     let calls = (100.0 / once).clamp(1.0, 1000.0) as usize;
     let (mut ours, mut theirs, mut ratios) = (Vec::new(), Vec::new(), Vec::new());
@@ -130,7 +131,12 @@ fn row(rounds: usize, call: &str, label: &str, says: String, proved: &mut dyn Fn
         theirs.push(y);
         ratios.push(x / y);
     }
-    println!("{call:6} {label:54} {says:15} {:8.2} {:8.2} {:6.2}", median(ours), median(theirs), median(ratios));
+    (median(ours), median(theirs), median(ratios))
+}
+
+fn row(rounds: usize, call: &str, label: &str, says: String, proved: &mut dyn FnMut() -> u64, plain: &mut dyn FnMut() -> u64) {
+    let (ours, theirs, ratio) = medians(rounds, proved, plain);
+    println!("{call:6} {label:54} {says:15} {ours:8.2} {theirs:8.2} {ratio:6.2}");
 }
 
 fn says(word: u64, judged: bool) -> String {
@@ -195,4 +201,5 @@ fn main() {
         let gaps: Vec<u8> = m.iter().map(|&cell| if rng.below(2) == 0 { 2 } else { cell }).collect();
         time_judge(rounds, &format!("{label}: as built, half of the cells unlogged"), &gaps, &built(m));
     }
+    files::time(rounds, rng);
 }

@@ -105,13 +105,22 @@ struct bytes of_text(const char *cells) {
     return b;
 }
 
+struct bytes of_characters(const char *characters) {
+    struct bytes b = take(strlen(characters));
+    if (b.length) memcpy(b.at, characters, b.length);
+    return b;
+}
+
 struct bytes lend(size_t length) {
     struct bytes b = block_of(length, below(2) * 16);
+    for (uint8_t *c = b.block; c < b.at; c++) *c = poison(0);
     for (size_t i = 0; i < b.held; i++) b.at[i] = poison(i);
     return b;
 }
 
 bool kept(struct bytes b, size_t from) {
+    for (uint8_t *c = b.block; c < b.at; c++)
+        if (*c != poison(0)) return false;
     for (size_t i = from; i < b.held; i++)
         if (b.at[i] != poison(i)) return false;
     return true;

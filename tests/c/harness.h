@@ -59,9 +59,12 @@ struct bytes take(size_t length);
 struct bytes copy(struct bytes b);
 /* digits are their value, * is 2, all else is passed over */
 struct bytes of_text(const char *cells);
-/* a buffer to write to, full of bytes that no call writes; every other one has bytes behind it that are not lent */
+/* the characters themselves */
+struct bytes of_characters(const char *characters);
+/* a buffer to write to, full of bytes that no call writes, and so are up to seven before it; every other one has bytes behind it that are
+ * not lent */
 struct bytes lend(size_t length);
-/* whether the bytes of a lent buffer, and those behind it, are as they were from there on */
+/* whether the bytes of a lent buffer are as they were from there on, and those around it */
 bool kept(struct bytes b, size_t from);
 bool same(struct bytes b, struct bytes c);
 void drop(struct bytes b);

@@ -19,4 +19,13 @@ uint64_t plain_build(size_t n, size_t k, const uint8_t *matrix, size_t matrix_le
 uint64_t plain_judge(size_t n, size_t k, size_t d, const uint8_t *matrix, size_t matrix_length,
                      const uint8_t *assignment, size_t assignment_length, const uint8_t *table, size_t table_length);
 
+/* the files: written as the C library prints; read by writing, of all well-formed files, the one that has the most leading bytes of the
+ * input, and comparing the two */
+uint64_t plain_read_matrix(const uint8_t *file, size_t file_length, uint8_t *matrix, size_t matrix_length);
+uint64_t plain_read_policy(const uint8_t *file, size_t file_length,
+                           uint8_t *assignment, size_t assignment_length, uint8_t *table, size_t table_length);
+uint64_t plain_write_matrix(size_t n, size_t k, const uint8_t *matrix, size_t matrix_length, uint8_t *file, size_t file_length);
+uint64_t plain_write_policy(size_t n, size_t k, size_t d, const uint8_t *assignment, size_t assignment_length,
+                            const uint8_t *table, size_t table_length, uint8_t *file, size_t file_length);
+
 #endif

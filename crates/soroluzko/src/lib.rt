@@ -2,6 +2,9 @@
 use alike::Compared;
 use ask::Asked;
 use build::Built;
+use files::ReadMatrix;
+use files::ReadPolicy;
+use files::Wrote;
 use judge::Judged;
 use model::Refusal;
 ghost use mathlib.Core.Path.{_≡_};
@@ -9,9 +12,12 @@ ghost use mathlib.Core.List.{[]};
 ghost use lib.ListN.{length};
 ghost use Rattle.model.specs.Policy.{policy};
 ghost use Rattle.model.specs.Refusal.{refused};
+ghost use Rattle.layout.specs.Text.{matrixText, policyText};
+ghost use Rattle.files.specs.Write.{matrixWriteRules, policyWriteRules};
 ghost use Rattle.build.specs.Build.{assignmentLeft, tableLeft};
-ghost use Rattle.soroluzko.specs.Word.{word, Carried};
-ghost use Rattle.soroluzko.specs.Calls.{askWord, alikeWord, buildWord, judgeWord};
+ghost use Rattle.words.specs.Word.{word, Carried};
+ghost use Rattle.words.specs.Calls.{askWord, alikeWord, buildWord, judgeWord};
+ghost use Rattle.words.specs.Files.{MatrixReadWord, PolicyReadWord, WrittenWord};
 
 // The word of a refusal.
 fn refusal_word(r: Refusal) -> u64
@@ -95,5 +101,68 @@ pub extern "C" fn soroluzko_judge(
         Judged::Enforces(domains) => 65536 * domains as u64,
         Judged::Conflict { cell, logged } => 256 + 65536 * cell as u64 + 4294967296 * logged as u64,
         Judged::Refused(r) => refusal_word(r),
+    }
+}
+
+// Reading a matrix file, for C: `files::read_matrix` with its answer as a word.
+#[no_mangle]
+pub extern "C" fn soroluzko_read_matrix(file: &[u8], matrix: &mut [u8]) -> u64
+    ensures { λ w. ⌜ MatrixReadWord (now (file .entry)) (now (matrix .entry)) w (now (matrix .exit)) ⌝ }
+{
+    let read = files::read_matrix(file, matrix);
+    match read {
+        ReadMatrix::Matrix { n, k } => 256 * n as u64 + 65536 * k as u64,
+        ReadMatrix::Refused(r) => refusal_word(r),
+    }
+}
+
+// Reading a policy file, for C: `files::read_policy` with its answer as a word.
+#[no_mangle]
+pub extern "C" fn soroluzko_read_policy(file: &[u8], assignment: &mut [u8], table: &mut [u8]) -> u64
+    ensures { λ w. ⌜
+        PolicyReadWord (now (file .entry)) (now (assignment .entry)) (now (table .entry)) w (now (assignment .exit)) (now (table .exit))
+        ⌝ }
+{
+    let read = files::read_policy(file, assignment, table);
+    match read {
+        ReadPolicy::Policy { n, k, d } => 256 * n as u64 + 65536 * k as u64 + 16777216 * d as u64,
+        ReadPolicy::Refused(r) => refusal_word(r),
+    }
+}
+
+// Writing a matrix file, for C: `files::write_matrix` with its answer as a word.
+#[no_mangle]
+pub extern "C" fn soroluzko_write_matrix(n: usize, k: usize, matrix: &[u8], file: &mut [u8]) -> u64
+    ensures { λ w. ⌜
+        WrittenWord (matrixWriteRules n k (now (matrix .entry)) (length (now (file .entry)))) (matrixText n k (now (matrix .entry)))
+        (now (file .entry)) w (now (file .exit))
+        ⌝ }
+{
+    let wrote = files::write_matrix(n, k, matrix, file);
+    match wrote {
+        Wrote::Length(size) => 256 * size as u64,
+        Wrote::Refused(r) => refusal_word(r),
+    }
+}
+
+// Writing a policy file, for C: `files::write_policy` with its answer as a word.
+#[no_mangle]
+pub extern "C" fn soroluzko_write_policy(
+    n: usize,
+    k: usize,
+    d: usize,
+    assignment: &[u8],
+    table: &[u8],
+    file: &mut [u8],
+) -> u64
+    ensures { λ w. ⌜
+        WrittenWord (policyWriteRules n k (policy d (now (assignment .entry)) (now (table .entry))) (length (now (file .entry))))
+        (policyText n k (policy d (now (assignment .entry)) (now (table .entry)))) (now (file .entry)) w (now (file .exit))
+        ⌝ }
+{
+    let wrote = files::write_policy(n, k, d, assignment, table, file);
+    match wrote {
+        Wrote::Length(size) => 256 * size as u64,
+        Wrote::Refused(r) => refusal_word(r),
     }
 }

@@ -1,6 +1,6 @@
 -- `soroluzko::refusal_word` meets its contract: the sum is the word, and it fits since the word can carry it. Assumes nothing.
 use native.Mathlib.Omega.{arith}
-use Rattle.soroluzko.specs.Word.{word}
+use Rattle.words.specs.Word.{word}
 use borrow.Author.Needs.{needs}
 use Rattle.soroluzko.proofs.refusal_word.Statement.{statement}
 use Rattle.soroluzko.proofs.refusal_word.Tie as tie

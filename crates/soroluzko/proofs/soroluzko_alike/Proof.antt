@@ -3,9 +3,9 @@
 use mathlib.Core.Path.{sym, ap, _∙_, subst}
 use mathlib.Core.List.{[], _∷_}
 use Rattle.alike.specs.Compare.{comparedTold}
-use Rattle.soroluzko.specs.Word.{fields, word}
-use Rattle.soroluzko.proofs.Word.{Held}
-use Rattle.soroluzko.proofs.Calls.{alike-held}
+use Rattle.words.specs.Word.{fields, word}
+use Rattle.words.proofs.Word.{Held}
+use Rattle.words.proofs.Calls.{alike-held}
 use borrow.Author.Needs.{needs}
 use Rattle.soroluzko.proofs.soroluzko_alike.Tie as tie
 use Rattle.soroluzko.proofs.soroluzko_alike.Statement.{statement}

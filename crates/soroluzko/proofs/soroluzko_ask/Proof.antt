@@ -3,9 +3,9 @@
 use mathlib.Core.Path.{sym, ap, _∙_, subst}
 use mathlib.Core.List.{[], _∷_}
 use Rattle.ask.specs.Ask.{askedTold}
-use Rattle.soroluzko.specs.Word.{fields, word}
-use Rattle.soroluzko.proofs.Word.{Held}
-use Rattle.soroluzko.proofs.Calls.{ask-held}
+use Rattle.words.specs.Word.{fields, word}
+use Rattle.words.proofs.Word.{Held}
+use Rattle.words.proofs.Calls.{ask-held}
 use borrow.Author.Needs.{needs}
 use Rattle.soroluzko.proofs.soroluzko_ask.Statement.{statement}
 use Rattle.soroluzko.proofs.soroluzko_ask.Tie as tie

@@ -7,15 +7,12 @@ use native.Mathlib.Omega.{arith}
 use lib.ListN.{length}
 use Rattle.model.specs.Refusal.{values, refused}
 use Rattle.build.specs.Build.{builtTold, buildTold}
-use Rattle.soroluzko.specs.Word.{fields, word}
-use Rattle.soroluzko.proofs.Word.{Fit, more, Held}
-use Rattle.soroluzko.proofs.Calls.{build-held}
+use Rattle.words.specs.Word.{fields, word}
+use Rattle.words.proofs.Word.{Held, fit-first}
+use Rattle.words.proofs.Calls.{build-held}
 use borrow.Author.Needs.{needs}
 use Rattle.soroluzko.proofs.soroluzko_build.Tie as tie
 use Rattle.soroluzko.proofs.soroluzko_build.Statement.{statement}
-
-first-fits : {w x : ℕ} → Fit (w ∷ []) (x ∷ []) → x < 2 ^ w
-first-fits (more h f) = h
 
 abbrev value : tie.After-known-told → ℕ
 value c = c .before .built .given .0 .0
@@ -24,7 +21,7 @@ value c = c .before .built .given .0 .0
 small : (c : tie.After-known-told) → value c < 2 ^ 8
 small c =
     let told = sym (c .before .before .before .before .before .before .before .build .ensures .told) ∙ ap builtTold (c .before .built .given .1) in
-    first-fits (subst (Held (8 ∷ [])) told (build-held _ _ _ _ _))
+    fit-first (subst (Held (8 ∷ [])) told (build-held _ _ _ _ _))
 
 build-requires : tie.Need-build-requires
 build-requires c κs = search needs

@@ -4,8 +4,8 @@ use mathlib.Core.List.{[], _∷_}
 use Prim.Native.Nat.{ℕ, _+_, _*_, _^_, _<_}
 use native.Mathlib.Omega.{arith}
 use Rattle.judge.specs.Judge.{judgedTold}
-use Rattle.soroluzko.specs.Word.{fields, word}
-use Rattle.soroluzko.proofs.Calls.{JudgeHeld, judge-held, domains-held, conflict-held, refusal-held}
+use Rattle.words.specs.Word.{fields, word}
+use Rattle.words.proofs.Calls.{JudgeHeld, judge-held, domains-held, conflict-held, refusal-held}
 use borrow.Author.Needs.{needs}
 use Rattle.soroluzko.proofs.soroluzko_judge.Statement.{statement}
 use Rattle.soroluzko.proofs.soroluzko_judge.Tie as tie

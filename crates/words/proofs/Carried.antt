@@ -22,9 +22,9 @@ use Rattle.ask.specs.Ask.{lookRules, askRules}
 use Rattle.alike.specs.Compare.{alikeRules}
 use Rattle.build.specs.Build.{builtFrom, tableSize, buildRules}
 use Rattle.judge.specs.Judge.{judgeRules}
-use Rattle.soroluzko.specs.Word.{placeBits, Carried}
+use Rattle.words.specs.Word.{placeBits, Carried}
 
-carried : (number place : ℕ) → 0 < number → number < 256 → place < 2 ^ placeBits → Carried (refusal number place)
+pub carried : (number place : ℕ) → 0 < number → number < 256 → place < 2 ^ placeBits → Carried (refusal number place)
 unfolding refusal
 carried number place h l m = record { given = h; number = l; place = m }
 
@@ -32,7 +32,7 @@ cell-carried : (number k y i : ℕ) → 0 < number → number < 256 → i < 2 ^ 
 unfolding cellRefusal
 cell-carried number k y i h l m = record { given = h; number = l; place = m }
 
-sizes-carried : (n k d : ℕ) → Gives Carried (sizeRules n k d)
+pub sizes-carried : (n k d : ℕ) → Gives Carried (sizeRules n k d)
 unfolding sizeRules
 sizes-carried n k d = (
   λ _. carried 1 0 (omega arith) (omega arith) (omega arith),
@@ -97,17 +97,17 @@ list-carried number want p l at h b w each = (
 )
 
 module _ (n k d : ℕ) (s : Sized n k d) where
-  matrix-carried : (m : List ℕ) → Gives Carried (matrixRules n k m)
+  pub matrix-carried : (m : List ℕ) → Gives Carried (matrixRules n k m)
   unfolding matrixRules
   matrix-carried m = list-carried 2 (n * k * n) _ m (cellRefusal 3 k n) (omega arith) (omega arith) (small (s .entities) (s .rights) (s .entities) .cells)
       (λ i l. cell-carried 3 k n i (omega arith) (omega arith) l)
 
-  assignment-carried : (l : List ℕ) → Gives Carried (assignmentRules n d l)
+  pub assignment-carried : (l : List ℕ) → Gives Carried (assignmentRules n d l)
   unfolding assignmentRules
   assignment-carried l = list-carried 5 n _ l (refusal 6) (omega arith) (omega arith) (omega (arith, s .entities))
       (λ i b. carried 6 i (omega arith) (omega arith) b)
 
-  table-carried : (l : List ℕ) → Gives Carried (tableRules k d l)
+  pub table-carried : (l : List ℕ) → Gives Carried (tableRules k d l)
   unfolding tableRules
   table-carried l = list-carried 7 (d * k * d) _ l (cellRefusal 8 k d) (omega arith) (omega arith) (small (s .domains) (s .rights) (s .domains) .cells)
       (λ i b. cell-carried 8 k d i (omega arith) (omega arith) b)
@@ -123,7 +123,7 @@ whole-carried n k m = gives-group Carried (sizeRules n k 0) _ (sizes-carried n k
     gives-group Carried (matrixRules n k m) (fullRules n k m) (matrix-carried n k 0 s m) (λ f.
     full-carried n k m (omega (arith, matrix-fine n k m f .long, small (s .entities) (s .rights) (s .entities) .cells))))
 
-room-carried : (number have need : ℕ) → 0 < number → number < 256 → need ≤ 32768 → Gives Carried (roomRules number have need)
+pub room-carried : (number have need : ℕ) → 0 < number → number < 256 → need ≤ 33230 → Gives Carried (roomRules number have need)
 unfolding roomRules
 room-carried number have need h b l = (λ _. carried number need h b (omega arith), λ _. tt)
 
@@ -146,7 +146,7 @@ build-carried n k m x y = gives-group Carried (wholeRules n k m) _ (whole-carrie
     let s = whole-fine n k m e .sized in
     let d : builtFrom n k m .domains ≤ 64 = omega (arith, built-few n k (cell k n m), s .entities) in
     gives-group Carried (roomRules 10 x n) (roomRules 11 y (tableSize n k m)) (room-carried 10 x n (omega arith) (omega arith) (omega (arith, s .entities)))
-    (λ _. room-carried 11 y (tableSize n k m) (omega arith) (omega arith) (small d (s .rights) d .cells)))
+    (λ _. room-carried 11 y (tableSize n k m) (omega arith) (omega arith) (omega (arith, small d (s .rights) d .cells))))
 
 pub judge-carried : (n k : ℕ) (m : List ℕ) (P : Policy) → Gives Carried (judgeRules n k m P)
 unfolding judgeRules

@@ -1,3 +1,3 @@
 pub mod Word
-pub mod Carried
 pub mod Calls
+pub mod Files

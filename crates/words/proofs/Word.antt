@@ -2,13 +2,13 @@
 -- room in their fields are the digits of what is above. Assumes nothing.
 use mathlib.Core.Path.{_≡_, refl, ap, ap₂, _∙_}
 use mathlib.Core.List.{List, [], _∷_}
-use Prim.Native.Nat.{ℕ, _+_, _*_, _/_, _%_, _^_, _<_}
+use Prim.Native.Nat.{ℕ, _+_, _*_, _/_, _%_, _^_, _≤_, _<_}
 use native.Mathlib.Nat.{mul-comm, add-comm, mod-eq-of-lt}
 use native.Mathlib.Omega.{arith}
 use borrow.Author.Tests.{eq-eqb, ne-eqb}
-use lib.Arith.{digits-div, digits-mod}
+use lib.Arith.{digits-lt, digits-div, digits-mod}
 use Rattle.model.specs.Refusal.{Told, values, refused}
-use Rattle.soroluzko.specs.Word.{fields, unfields, placeBits, word, unword, Carried}
+use Rattle.words.specs.Word.{fields, unfields, placeBits, word, unword, Carried}
 
 -- a sum's low digit, and what is above it
 turned : (b x f : ℕ) → x + b * f ≡ f * b + x
@@ -24,6 +24,12 @@ high b x f h = ap (λ (y : ℕ). y / b) (turned b x f) ∙ digits-div f h
 pub data Fit : List ℕ → List ℕ → Type 0 where
   none : Fit [] []
   more : {w : ℕ} {ws : List ℕ} {x : ℕ} {vs : List ℕ} → x < 2 ^ w → Fit ws vs → Fit (w ∷ ws) (x ∷ vs)
+
+pub fit-first : {w x : ℕ} {ws vs : List ℕ} → Fit (w ∷ ws) (x ∷ vs) → x < 2 ^ w
+fit-first (more h f) = h
+
+pub fit-rest : {w x : ℕ} {ws vs : List ℕ} → Fit (w ∷ ws) (x ∷ vs) → Fit ws vs
+fit-rest (more h f) = f
 
 fields-kept : (ws vs : List ℕ) → Fit ws vs → unfields ws (fields ws vs) ≡ vs
 unfolding fields unfields
@@ -63,3 +69,21 @@ word-kept ws (refused r) h =
 
     q : (r .number + 256 * r .place) / 256 % 2 ^ placeBits ≡ r .place
     q = ap (λ (z : ℕ). z % 2 ^ placeBits) (high 256 (r .number) (r .place) (h .number)) ∙ mod-eq-of-lt (h .place)
+
+-- ---- the upper bits are 0
+
+-- how many values the fields have together
+abbrev pub room : List ℕ → ℕ
+room [] = 1
+room (w ∷ ws) = room ws * 2 ^ w
+
+fields-low : (ws vs : List ℕ) → Fit ws vs → fields ws vs < room ws
+unfolding fields
+fields-low [] [] none = omega arith
+fields-low (w ∷ ws) (x ∷ vs) (more h f) = rw (turned (2 ^ w) x (fields ws vs)) (digits-lt (fields-low ws vs f) h)
+
+-- fields of at most 24 bits together, or a refusal, leave the upper half 0
+pub word-low : (ws : List ℕ) → room ws ≤ 2 ^ 24 → (t : Told) → Held ws t → word ws t < 2 ^ 32
+unfolding word
+word-low ws b (values vs) h = omega (arith, fields-low ws vs h)
+word-low ws b (refused r) h = omega (arith, h .number, h .place)

@@ -24,13 +24,13 @@ use Rattle.alike.specs.Compare.{alikeRules, alikeTold}
 use Rattle.build.specs.Build.{builtFrom, buildRules, buildTold}
 use Rattle.judge.specs.Judge.{judgeRules, conflict, verdict, judgeTold}
 use Rattle.judge.proofs.Exits.{judgeable}
-use Rattle.soroluzko.specs.Word.{fields, word, unword, Carried}
-use Rattle.soroluzko.specs.Calls.{judgeFields, AskKept, AlikeKept, BuildKept, JudgeKept}
-use Rattle.soroluzko.proofs.Word.{Fit, none, more, Held, word-kept}
-use Rattle.soroluzko.proofs.Carried.{ask-carried, alike-carried, build-carried, judge-carried}
+use Rattle.words.specs.Word.{fields, word, unword, Carried}
+use Rattle.words.specs.Calls.{judgeFields, AskKept, AlikeKept, BuildKept, JudgeKept}
+use Rattle.words.proofs.Word.{Fit, none, more, Held, word-kept, word-low}
+use Rattle.words.proofs.Carried.{ask-carried, alike-carried, build-carried, judge-carried}
 
 -- what is told has room where the values have, and where each refusal has
-told-held : (ws : List ℕ) (rs : List Rule) (vs : List ℕ) → Gives Carried rs → (checked rs ≡ Fine → Fit ws vs) → Held ws (tell (checked rs) vs)
+pub told-held : (ws : List ℕ) (rs : List Rule) (vs : List ℕ) → Gives Carried rs → (checked rs ≡ Fine → Fit ws vs) → Held ws (tell (checked rs) vs)
 told-held ws rs vs g f = go (checked rs) refl
   where
     go : (c : Checked) → checked rs ≡ c → Held ws (tell c vs)
@@ -55,20 +55,14 @@ build-held n k m x y = told-held (8 ∷ []) (buildRules n k m x y) (builtFrom n 
     let s = whole-fine n k m (groups-fine (wholeRules n k m) _ e .0) .sized in
     more (omega (arith, built-few n k (cell k n m), s .entities)) none)
 
--- one field of at most 24 bits, or a refusal, leaves the upper half 0
-low : (w : ℕ) → 2 ^ w ≤ 2 ^ 24 → (t : Told) → Held (w ∷ []) t → word (w ∷ []) t < 2 ^ 32
-unfolding word fields
-low w b (values (x ∷ vs)) (more h f) = omega arith
-low w b (refused r) h = omega (arith, h .number, h .place)
-
 pub ask-kept : AskKept
-ask-kept n k u a v P = let t = askTold n k u a v P in let h = ask-held n k u a v P in (word-kept (1 ∷ []) t h, low 1 (omega arith) t h)
+ask-kept n k u a v P = let t = askTold n k u a v P in let h = ask-held n k u a v P in (word-kept (1 ∷ []) t h, word-low (1 ∷ []) (omega arith) t h)
 
 pub alike-kept : AlikeKept
-alike-kept n k u v m = let t = alikeTold n k u v m in let h = alike-held n k u v m in (word-kept (1 ∷ []) t h, low 1 (omega arith) t h)
+alike-kept n k u v m = let t = alikeTold n k u v m in let h = alike-held n k u v m in (word-kept (1 ∷ []) t h, word-low (1 ∷ []) (omega arith) t h)
 
 pub build-kept : BuildKept
-build-kept n k m x y = let t = buildTold n k m x y in let h = build-held n k m x y in (word-kept (8 ∷ []) t h, low 8 (omega arith) t h)
+build-kept n k m x y = let t = buildTold n k m x y in let h = build-held n k m x y in (word-kept (8 ∷ []) t h, word-low (8 ∷ []) (omega arith) t h)
 
 -- ---- the judge: bits 8 to 15 tell whether two fields follow or three
 

@@ -9,7 +9,7 @@ use Rattle.ask.specs.Ask.{askTold}
 use Rattle.alike.specs.Compare.{alikeTold}
 use Rattle.build.specs.Build.{buildTold}
 use Rattle.judge.specs.Judge.{judgeTold}
-use Rattle.soroluzko.specs.Word.{word, unword, Kept}
+use Rattle.words.specs.Word.{word, unword, Kept}
 
 -- ask: bit 8 is the grant
 abbrev pub askWord : ℕ → ℕ → ℕ → ℕ → ℕ → Policy → ℕ

@@ -1,0 +1,4 @@
+pub mod Word
+pub mod Carried
+pub mod Calls
+pub mod Files
