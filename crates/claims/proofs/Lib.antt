@@ -5,3 +5,5 @@ pub mod Alike
 pub mod Judge
 pub mod Across
 pub mod Patterns
+pub mod Files
+pub mod FilesWritten

@@ -1,7 +1,7 @@
 -- What is claimed of the two files, over any answers and buffers that meet the promises of the four calls (01, "The two files").
 -- Assumes nothing.
 use mathlib.Core.Path.{_≡_}
-use mathlib.Core.List.{List, [], _∷_, _++_}
+use mathlib.Core.List.{List, _∷_, _++_}
 use Prim.Native.Nat.{ℕ, _*_, _≤_, _<_}
 use lib.ListN.{length, take, drop}
 use Rattle.model.specs.declared.Refusal.{Refusal}
@@ -19,7 +19,7 @@ use Rattle.files.specs.Read.{readMatrixTold, readPolicyTold, MatrixRead, Policy
 use Rattle.files.specs.Write.{wroteTold, matrixWriteRules, policyWriteRules, Written}
 use Rattle.claims.specs.Build.{written}
 
--- the promises: of the file s and the buffers x and y the answer r, and what the buffers become
+-- the promises of the four calls: s is the file that is read, r the answer, and x′ and y′ are what the buffers x and y become
 abbrev pub ReadsMatrix : List ℕ → List ℕ → ReadMatrix → List ℕ → Type 0
 ReadsMatrix s x r x′ = MatrixRead s x (readMatrixTold r) x′
 
@@ -34,7 +34,7 @@ WritesPolicy n k P x r x′ = Written (policyWriteRules n k P (length x)) (polic
 
 -- ---- reading
 
--- demand 2: what is told and filled is the matrix whose file it is, or the policy, and later bytes stay
+-- demand 2: s is the file of the matrix that is told and filled, or of the policy, and later bytes stay
 abbrev pub MatrixFilled : Type 0
 MatrixFilled = (n k : ℕ) (s x x′ : List ℕ) → ReadsMatrix s x (Matrix n k) x′
     → MatrixFile n k (take (n * k * n) x′) s × (drop (n * k * n) x′ ≡ drop (n * k * n) x)
@@ -55,18 +55,22 @@ ReadServes = (n k : ℕ) (s x y x′ y′ : List ℕ)
     × ((P : Policy) (r : ReadPolicy) → PolicyFile n k P s → length (P .assignment) ≤ length x → length (P .table) ≤ length y
     → ReadsPolicy s x y r x′ y′ → r ≡ APolicy n k (P .domains))
 
--- the place: a file cut short is refused at its length, and bytes behind a file at the file's length
+-- the place: a file that is not well formed is refused with 12 and its place
+abbrev pub Placed : Type 0
+Placed = (s x y x′ y′ : List ℕ) (p : ℕ)
+    → (Malformed MatrixFormed s p → (r : ReadMatrix) → ReadsMatrix s x r x′ → r ≡ MatrixRefused (refusal 12 p))
+    × (Malformed PolicyFormed s p → (r : ReadPolicy) → ReadsPolicy s x y r x′ y′ → r ≡ PolicyRefused (refusal 12 p))
+
+-- a well-formed file that is cut short has its length as its place, and one with bytes behind its end the length that it had
 abbrev pub Cut : Type 0
-Cut = (s x y x′ y′ : List ℕ) (p : ℕ) → p < length s
-    → (MatrixFormed s → (r : ReadMatrix) → ReadsMatrix (take p s) x r x′ → r ≡ MatrixRefused (refusal 12 p))
-    × (PolicyFormed s → (r : ReadPolicy) → ReadsPolicy (take p s) x y r x′ y′ → r ≡ PolicyRefused (refusal 12 p))
+Cut = (s : List ℕ) (p : ℕ) → p < length s
+    → (MatrixFormed s → Malformed MatrixFormed (take p s) p) × (PolicyFormed s → Malformed PolicyFormed (take p s) p)
 
 abbrev pub Behind : Type 0
-Behind = (s t x y x′ y′ : List ℕ) → 0 < length t
-    → (MatrixFormed s → (r : ReadMatrix) → ReadsMatrix (s ++ t) x r x′ → r ≡ MatrixRefused (refusal 12 (length s)))
-    × (PolicyFormed s → (r : ReadPolicy) → ReadsPolicy (s ++ t) x y r x′ y′ → r ≡ PolicyRefused (refusal 12 (length s)))
+Behind = (s t : List ℕ) → 0 < length t
+    → (MatrixFormed s → Malformed MatrixFormed (s ++ t) (length s)) × (PolicyFormed s → Malformed PolicyFormed (s ++ t) (length s))
 
--- MX65 has place 3, and PD03100 has place 6, whatever follows
+-- a file that begins with MX65 has place 3, and one that begins with PD03100 has place 6
 abbrev pub Examples : Type 0
 Examples = (t : List ℕ) → Malformed MatrixFormed (77 ∷ 88 ∷ 54 ∷ 53 ∷ t) 3 × Malformed PolicyFormed (80 ∷ 68 ∷ 48 ∷ 51 ∷ 49 ∷ 48 ∷ 48 ∷ t) 6
 
@@ -83,7 +87,7 @@ abbrev pub WriteKeeps : Type 0
 WriteKeeps = (n k : ℕ) (x x′ : List ℕ) (r : Refusal)
     → ((m : List ℕ) → WritesMatrix n k m x (WriteRefused r) x′ → x′ ≡ x) × ((P : Policy) → WritesPolicy n k P x (WriteRefused r) x′ → x′ ≡ x)
 
--- demand 2: and it refuses no matrix and no policy for whose file there is room
+-- demand 2: and it refuses no matrix and no policy within the limits for whose file there is room
 abbrev pub WriteServes : Type 0
 WriteServes = (n k : ℕ) (s x x′ : List ℕ) (r : Wrote) → length s ≤ length x
     → ((m : List ℕ) → MatrixFile n k m s → WritesMatrix n k m x r x′ → r ≡ Length (length s))

@@ -1,9 +1,12 @@
 -- The exits of the two reads. Where the check stopped inside the file, the file is malformed and that is its place. Past its end the file is
 -- that of a matrix, or of a policy, with the numbers that its first line has; and what is filled from it is the rest. Assumes nothing.
 use mathlib.Core.Path.{_≡_, refl, sym, ap, ap₂, _∙_, subst}
+use mathlib.Core.Bool.{Bool, true, false, cond}
 use mathlib.Core.List.{List, [], _∷_, _++_}
 use Prim.Native.Nat.{ℕ, _+_, _*_, _≤_, _<_}
 use native.Mathlib.Omega.{arith}
+use borrow.Author.Tests.{leb-true, leb-false}
+use lib.Dec.{leb}
 use lib.ListN.{length}
 use lib.Seq.{sets}
 use Rattle.model.specs.declared.Refusal.{Refusal}
@@ -13,16 +16,28 @@ use Rattle.model.specs.Below.{tab}
 use Rattle.model.specs.Policy.{Policy, policy}
 use Rattle.model.specs.Refusal.{checked, refusal, values, refused, over}
 use Rattle.model.specs.Rules.{roomRules}
-use Rattle.model.proofs.Groups.{group-fine, group-bad, tell-fine, tell-bad, held-fine, held-bad}
+use Rattle.model.proofs.Groups.{fine-not-bad, checked-fine, group-fine, group-bad, tell-fine, tell-bad, held-fine, held-bad}
 use Rattle.model.proofs.Rules.{room-fine}
 use Rattle.layout.specs.Text.{each}
 use Rattle.layout.specs.Files.{MatrixFile, PolicyFile}
 use Rattle.layout.specs.Layout.{reach, matrixLayout, policyLayout, digitAt, numberAt, rowAt}
 use Rattle.layout.proofs.Files.{matrix-formed, matrix-malformed, policy-formed, policy-malformed}
-use Rattle.layout.proofs.Contents.{MatrixSays, matrix-says, PolicySays, policy-says}
+use Rattle.layout.proofs.Contents.{Short, short, MatrixSays, matrix-says, PolicySays, policy-says}
 use Rattle.layout.proofs.Puts.{put-whole}
-use Rattle.files.proofs.Places.{Short, short}
 use Rattle.files.specs.Read.{MatrixRead, formed, malformed, matrixRoom, policyRoom, PolicyRead}
+
+-- ---- what the test of the place shows
+
+module _ (number place size : ℕ) where
+  pub placed-bad : (r : Refusal) → cond (leb place size) (Bad (refusal number place)) Fine ≡ Bad r → (place ≤ size) × (r ≡ refusal number place)
+  placed-bad r e = go (leb place size) refl e
+    where
+      go : (b : Bool) → leb place size ≡ b → cond b (Bad (refusal number place)) Fine ≡ Bad r → (place ≤ size) × (r ≡ refusal number place)
+      go true q f = (leb-true place size q, cc)
+      go false q f = absurd (fine-not-bad Fine r refl f)
+
+  pub placed-fine : cond (leb place size) (Bad (refusal number place)) Fine ≡ Fine → size < place
+  placed-fine e = leb-false place size (checked-fine (leb place size) (refusal number place) Fine e .0)
 
 -- what was filled from the start on
 filled : (new x x′ : List ℕ) → length new ≤ length x → x′ ≡ sets x 0 new → x′ ≡ over new x
@@ -31,8 +46,8 @@ filled new x x′ h e = e ∙ put-whole new x h
 -- ---- a matrix
 
 module _ (s x : List ℕ) (place : ℕ) (e : place ≡ reach matrixLayout s) where
-  pub matrix-bad : (r : Refusal) → place ≤ length s → r ≡ refusal 12 place → MatrixRead s x (refused r) x
-  matrix-bad r h q = MatrixRead.malformed place (matrix-malformed s place e h) (ap refused q) refl
+  pub matrix-bad : (r : Refusal) → (place ≤ length s) × (r ≡ refusal 12 place) → MatrixRead s x (refused r) x
+  matrix-bad r (h, q) = MatrixRead.malformed place (matrix-malformed s place e h) (ap refused q) refl
 
   pub matrix-least : length s < place → 9 ≤ length s
   matrix-least h = let (n, k, m, f) = matrix-formed s place e h in omega (arith, matrix-says f .long)
@@ -77,8 +92,8 @@ module _ (s x : List ℕ) (place : ℕ) (e : place ≡ reach matrixLayout s) whe
 -- ---- a policy
 
 module _ (s x y : List ℕ) (place : ℕ) (e : place ≡ reach policyLayout s) where
-  pub policy-bad : (r : Refusal) → place ≤ length s → r ≡ refusal 12 place → PolicyRead s x y (refused r) x y
-  policy-bad r h q = PolicyRead.malformed place (policy-malformed s place e h) (ap refused q) refl refl
+  pub policy-bad : (r : Refusal) → (place ≤ length s) × (r ≡ refusal 12 place) → PolicyRead s x y (refused r) x y
+  policy-bad r (h, q) = PolicyRead.malformed place (policy-malformed s place e h) (ap refused q) refl refl
 
   pub policy-least : length s < place → 14 ≤ length s
   policy-least h = let (n, k, P, f) = policy-formed s place e h in omega (arith, policy-says f .long)

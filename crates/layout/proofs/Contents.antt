@@ -182,14 +182,19 @@ policy-one {s = s} f g =
 
 -- ---- a file is short
 
-pub rows-short : (c k : ℕ) → c ≤ 64 → k ≤ 8 → c * (k * c + 5) ≤ 64 * 517
-rows-short c k h l =
-    let b : k * c ≤ 512 = mul-le-mul l h in
-    let row : k * c + 5 ≤ 517 = omega arith in
-    mul-le-mul h row
+-- within the limits no line and no file is long
+pub record Short (c k : ℕ) : Type 0 where
+  pub row : k * c ≤ 512
+  pub rows : c * (k * c + 5) ≤ 33088
+
+pub short : {c k : ℕ} → c ≤ 64 → k ≤ 8 → Short c k
+short {c} {k} h l =
+    let row : k * c ≤ 512 = mul-le-mul l h in
+    let line : k * c + 5 ≤ 517 = omega arith in
+    record { row = row; rows = mul-le-mul h line }
 
 pub matrix-short : {n k : ℕ} {m s : List ℕ} → MatrixFile n k m s → length s ≤ 33097
-matrix-short {n} {k} f = omega (arith, matrix-says f .long, rows-short n k (f .laid .entities) (f .laid .rights))
+matrix-short {n} {k} f = omega (arith, matrix-says f .long, short (f .laid .entities) (f .laid .rights) .rows)
 
 pub policy-short : {n k : ℕ} {P : Policy} {s : List ℕ} → PolicyFile n k P s → length s ≤ 33230
-policy-short {n} {k} {P} f = omega (arith, policy-says f .long, f .entities, rows-short (P .domains) k (f .domains) (f .rights))
+policy-short {n} {k} {P} f = omega (arith, policy-says f .long, f .entities, short (f .domains) (f .rights) .rows)

@@ -3,10 +3,11 @@
 use model::Checked;
 use model::Refusal;
 ghost use mathlib.Core.Path.{_≡_};
+ghost use mathlib.Core.Bool.{cond};
 ghost use Prim.Native.Nat.{_*_, _≤_, _<_};
 ghost use lib.Dec.{leb};
 ghost use lib.ListN.{length, getD};
-ghost use Rattle.model.specs.declared.Checked.the-variants.{Fine};
+ghost use Rattle.model.specs.declared.Checked.the-variants.{Fine, Bad};
 ghost use Rattle.model.specs.Below.{any};
 ghost use Rattle.model.specs.Matrix.{cellAt};
 ghost use Rattle.model.specs.Refusal.{refusal, cellRefusal, checked};
@@ -232,6 +233,16 @@ pub fn room_fits(number: usize, have: usize, need: usize) -> Checked
 {
     if have < need {
         return Checked::Bad(refuse(number, need));
+    }
+    Checked::Fine
+}
+
+// The number of the call for a file of `end` bytes that stops fitting at `place`; past its end it fits.
+pub fn place_fits(number: usize, place: usize, end: usize) -> Checked
+    ensures { λ r. ⌜ r ≡ cond (leb place end) (Bad (refusal number place)) Fine ⌝ }
+{
+    if place <= end {
+        return Checked::Bad(refuse(number, place));
     }
     Checked::Fine
 }

@@ -14,7 +14,7 @@ use Rattle.model.proofs.Places.{small}
 use Rattle.model.proofs.Rules.{Sized, sizes-fine}
 use Rattle.layout.specs.Text.{matrixText, policyText}
 use Rattle.layout.specs.Files.{MatrixFormed, PolicyFormed, Malformed}
-use Rattle.layout.proofs.Contents.{matrix-length, policy-length, rows-short, matrix-short, policy-short}
+use Rattle.layout.proofs.Contents.{matrix-length, policy-length, short, matrix-short, policy-short}
 use Rattle.files.specs.Read.{MatrixRead, PolicyRead, formed, malformed}
 use Rattle.files.specs.Write.{matrixWriteRules, policyWriteRules, Written}
 use Rattle.words.specs.Word.{Carried}
@@ -62,10 +62,10 @@ policy-read-held s x y x′ y′ t (PolicyRead.malformed p m e _ _) =
 -- ---- writing
 
 matrix-room : (n k : ℕ) (m : List ℕ) → Sized n k 0 → length (matrixText n k m) ≤ 33097
-matrix-room n k m s = omega (arith, matrix-length n k m, rows-short n k (s .entities) (s .rights))
+matrix-room n k m s = omega (arith, matrix-length n k m, short (s .entities) (s .rights) .rows)
 
 policy-room : (n k : ℕ) (P : Policy) → Sized n k (P .domains) → length (policyText n k P) ≤ 33230
-policy-room n k P s = omega (arith, policy-length n k P, rows-short (P .domains) k (s .domains) (s .rights), s .entities)
+policy-room n k P s = omega (arith, policy-length n k P, short (s .domains) (s .rights) .rows, s .entities)
 
 pub matrix-written-held : (n k : ℕ) (m x x′ : List ℕ) (t : Told) → Written (matrixWriteRules n k m (length x)) (matrixText n k m) x t x′ → Held (24 ∷ []) t
 unfolding matrixWriteRules

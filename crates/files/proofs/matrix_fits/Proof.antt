@@ -5,7 +5,7 @@ use Rattle.model.specs.declared.Checked.the-variants.{Fine}
 use Rattle.model.specs.Refusal.{checked}
 use Rattle.model.specs.Rules.{sizeRules}
 use Rattle.model.proofs.Rules.{sizes-fine}
-use Rattle.files.proofs.Places.{Short, short}
+use Rattle.layout.proofs.Contents.{Short, short}
 use Rattle.files.proofs.Writes.{matrix-sizes-bad, matrix-cells-bad, matrix-room}
 use borrow.Author.Needs.{needs}
 use Rattle.files.proofs.matrix_fits.Statement.{statement}

@@ -6,7 +6,7 @@ use Rattle.model.specs.Policy.{policy}
 use Rattle.model.specs.Refusal.{checked}
 use Rattle.model.specs.Rules.{sizeRules, assignmentRules}
 use Rattle.model.proofs.Rules.{sizes-fine}
-use Rattle.files.proofs.Places.{Short, short}
+use Rattle.layout.proofs.Contents.{Short, short}
 use Rattle.files.proofs.Writes.{policy-sizes-bad, policy-names-bad, policy-cells-bad, policy-room}
 use borrow.Author.Needs.{needs}
 use Rattle.files.proofs.policy_fits.Statement.{statement}

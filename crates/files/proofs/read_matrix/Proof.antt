@@ -1,50 +1,63 @@
 -- `files::read_matrix` meets its contract: its exits are those of `Fills`, at the numbers that the file has. Assumes nothing.
 use mathlib.Core.Path.{_≡_, sym, _∙_}
-use Prim.Native.Nat.{_+_, _*_, _≤_}
+use Prim.Native.Nat.{_+_, _*_, _≤_, _<_}
 use native.Mathlib.Omega.{arith}
 use lib.ListN.{length}
 use Rattle.model.specs.declared.Checked.the-variants.{Fine}
 use Rattle.model.specs.Refusal.{checked}
 use Rattle.model.specs.Rules.{roomRules}
 use Rattle.model.proofs.Rules.{room-fine}
-use Rattle.files.proofs.Places.{Short}
-use Rattle.files.proofs.Fills.{matrix-bad, matrix-least, matrix-limits, matrix-long, matrix-short, matrix-filled}
+use Rattle.layout.proofs.Contents.{Short}
+use Rattle.files.proofs.Fills.{placed-bad, placed-fine, matrix-bad, matrix-least, matrix-limits, matrix-long, matrix-short, matrix-filled}
 use borrow.Author.Needs.{needs}
 use Rattle.files.proofs.read_matrix.Statement.{statement}
 use Rattle.files.proofs.read_matrix.Tie as tie
 
+-- the check went past the end
+past : (c : tie.After-enum-told) → length (c .before .before .before .before .before .before .args .file .now) < c .before .before .before .matrix-place .result
+past c = placed-fine 12 _ _ (sym (c .before .before .place-fits .ensures) ∙ c .enum-told .given .1)
+
 -- once the numbers are read
 limits : (c : tie.After-digit-at) → Short (c .before .number-at .result) (c .digit-at .result)
 limits c =
-    let a = c .before .before .before .before .before .before .args in
-    matrix-limits (a .file .now) (a .matrix .now) _ (c .before .before .before .matrix-place .ensures) (omega arith) _ _ (c .before .number-at .ensures .0) (c .digit-at .ensures .0)
+    let a = c .before .before .before .before .before .before .before .before .args in
+    matrix-limits (a .file .now) (a .matrix .now) _ (c .before .before .before .before .before .matrix-place .ensures) (past (c .before .before)) _ _ (c .before .number-at .ensures .0) (c .digit-at .ensures .0)
 
 long : (c : tie.After-digit-at)
-    → let n = c .before .number-at .result in length (c .before .before .before .before .before .before .args .file .now) ≡ 9 + n * (c .digit-at .result * n + 5)
+    → let n = c .before .number-at .result in length (c .before .before .before .before .before .before .before .before .args .file .now) ≡ 9 + n * (c .digit-at .result * n + 5)
 long c =
-    let a = c .before .before .before .before .before .before .args in
-    matrix-long (a .file .now) (a .matrix .now) _ (c .before .before .before .matrix-place .ensures) (omega arith) _ _ (c .before .number-at .ensures .0) (c .digit-at .ensures .0)
+    let a = c .before .before .before .before .before .before .before .before .args in
+    matrix-long (a .file .now) (a .matrix .now) _ (c .before .before .before .before .before .matrix-place .ensures) (past (c .before .before)) _ _ (c .before .number-at .ensures .0) (c .digit-at .ensures .0)
 
 -- once there is room
-roomy : (c : tie.After-enum-told)
+roomy : (c : tie.After-enum-told2)
     → let n = c .before .before .before .before .number-at .result in
-    checked (roomRules 11 (length (c .before .before .before .before .before .before .before .before .before .args .matrix .now)) (n * (c .before .before .before .digit-at .result * n))) ≡ Fine
-roomy c = sym (c .before .before .room-fits .ensures) ∙ c .enum-told .given .1
+    checked (roomRules 11 (length (c .before .before .before .before .before .before .before .before .before .before .before .args .matrix .now)) (n * (c .before .before .before .digit-at .result * n))) ≡ Fine
+roomy c = sym (c .before .before .room-fits .ensures) ∙ c .enum-told2 .given .1
 
 matrix-place-requires : tie.Need-matrix-place-requires
 matrix-place-requires c κs = search needs
 
-refuse-requires : tie.Need-refuse-requires
-refuse-requires c κs = search needs
+place-fits-requires : tie.Need-place-fits-requires
+place-fits-requires c κs = search needs
+
+enum-known-formed : tie.Need-enum-known-formed
+enum-known-formed c = search needs
 
 returns : tie.Need-returns
-returns c = let a = c .before .before .before .before .before .args in matrix-bad (a .file .now) (a .matrix .now) _ (c .before .before .matrix-place .ensures) _ (omega arith) (c .refuse .ensures)
+returns c =
+    let a = c .before .before .before .before .before .before .before .args in
+    let bad = sym (c .before .before .before .place-fits .ensures) ∙ c .before .formed .given .1 in
+    matrix-bad (a .file .now) (a .matrix .now) _ (c .before .before .before .before .matrix-place .ensures) _ (placed-bad 12 _ (length (a .file .now)) _ bad)
+
+enum-told : tie.Need-enum-told
+enum-told c = search needs
 
 number-at-requires : tie.Need-number-at-requires
-number-at-requires c κs = let a = c .before .before .before .before .args in omega (arith, matrix-least (a .file .now) (a .matrix .now) _ (c .before .matrix-place .ensures) (omega arith))
+number-at-requires c κs = let a = c .before .before .before .before .before .before .args in omega (arith, matrix-least (a .file .now) (a .matrix .now) _ (c .before .before .before .matrix-place .ensures) (past c))
 
 digit-at-requires : tie.Need-digit-at-requires
-digit-at-requires c κs = let a = c .before .before .before .before .before .args in omega (arith, matrix-least (a .file .now) (a .matrix .now) _ (c .before .before .matrix-place .ensures) (omega arith))
+digit-at-requires c κs = let a = c .before .before .before .before .before .before .before .args in omega (arith, matrix-least (a .file .now) (a .matrix .now) _ (c .before .before .before .before .matrix-place .ensures) (past (c .before)))
 
 mul-room-fits : tie.Need-mul-room-fits
 mul-room-fits c = omega (arith, limits c .row)
@@ -61,20 +74,18 @@ enum-known-room c = search needs
 returns-2 : tie.Need-returns-2
 returns-2 c =
     let w = c .before .before .before .before in
-    let a = w .before .before .before .before .before .before .args in
+    let a = w .before .before .before .before .before .before .before .before .args in
     let bad = sym (c .before .before .before .room-fits .ensures) ∙ c .before .room .given .1 in
-    matrix-short (a .file .now) (a .matrix .now) _ (w .before .before .before .matrix-place .ensures) (omega arith) _ _ (w .before .number-at .ensures .0) (w .digit-at .ensures .0) _ bad
+    matrix-short (a .file .now) (a .matrix .now) _ (w .before .before .before .before .before .matrix-place .ensures) (past (w .before .before)) _ _ (w .before .number-at .ensures .0) (w .digit-at .ensures .0) _ bad
 
-enum-told : tie.Need-enum-told
-enum-told c = search needs
+enum-told-2 : tie.Need-enum-told-2
+enum-told-2 c = search needs
 
 mul-fill-records : tie.Need-mul-fill-records
 mul-fill-records c = omega (arith, limits (c .before .before .before) .row)
 
 fill-records-requires : tie.Need-fill-records-requires
-fill-records-requires c κs =
-    let w = c .before .before .before .before in
-    (omega (arith, long w), room-fine 11 _ _ (roomy (c .before)))
+fill-records-requires c κs = (omega (arith, long (c .before .before .before .before)), room-fine 11 _ _ (roomy (c .before)))
 
 same-length : tie.Need-same-length
 same-length c = search needs
@@ -82,17 +93,18 @@ same-length c = search needs
 returns-3 : tie.Need-returns-3
 returns-3 c =
     let w = c .before .before .before .before .before .before .before in
-    let a = w .before .before .before .before .before .before .args in
-    matrix-filled (a .file .now) (a .matrix .now) _ (w .before .before .before .matrix-place .ensures) (omega arith) _ _ (w .before .number-at .ensures .0) (w .digit-at .ensures .0) _
-    (roomy (c .before .before .before .before)) (c .before .before .fill-records .ensures)
+    let a = w .before .before .before .before .before .before .before .before .args in
+    matrix-filled (a .file .now) (a .matrix .now) _ (w .before .before .before .before .before .matrix-place .ensures) (past (w .before .before)) _ _ (w .before .number-at .ensures .0) (w .digit-at .ensures .0) _ (roomy (c .before .before .before .before)) (c .before .before .fill-records .ensures)
 
 pub read-matrix-spec : {M : Type 1} → statement M
 read-matrix-spec =
     tie.close
     (tie.spec
     matrix-place-requires
-    refuse-requires
+    place-fits-requires
+    enum-known-formed
     returns
+    enum-told
     number-at-requires
     digit-at-requires
     mul-room-fits
@@ -100,7 +112,7 @@ read-matrix-spec =
     room-fits-requires
     enum-known-room
     returns-2
-    enum-told
+    enum-told-2
     mul-fill-records
     fill-records-requires
     same-length
