@@ -35,13 +35,13 @@ pub fn read_matrix(file: &[u8], matrix: &mut [u8]) -> ReadMatrix
     if let Checked::Bad(r) = formed {
         return ReadMatrix::Refused(r);
     }
-    let n = readers::number_at(file, 2);
-    let k = readers::digit_at(file, 4);
+    let n = fills::number_at(file, 2);
+    let k = fills::digit_at(file, 4);
     let room = scan::room_fits(11, matrix.len(), n * (k * n));
     if let Checked::Bad(r) = room {
         return ReadMatrix::Refused(r);
     }
-    readers::fill_records(file, 6, k * n, n, matrix);
+    fills::fill_records(file, 6, k * n, n, matrix);
     ReadMatrix::Matrix { n, k }
 }
 
@@ -87,9 +87,9 @@ pub fn read_policy(file: &[u8], assignment: &mut [u8], table: &mut [u8]) -> Read
     if let Checked::Bad(r) = formed {
         return ReadPolicy::Refused(r);
     }
-    let n = readers::number_at(file, 2);
-    let k = readers::digit_at(file, 4);
-    let d = readers::number_at(file, 5);
+    let n = fills::number_at(file, 2);
+    let k = fills::digit_at(file, 4);
+    let d = fills::number_at(file, 5);
     let names = scan::room_fits(10, assignment.len(), n);
     if let Checked::Bad(r) = names {
         return ReadPolicy::Refused(r);
@@ -98,8 +98,8 @@ pub fn read_policy(file: &[u8], assignment: &mut [u8], table: &mut [u8]) -> Read
     if let Checked::Bad(r) = cells {
         return ReadPolicy::Refused(r);
     }
-    readers::fill_numbers(file, 10, n, assignment);
-    readers::fill_records(file, 11 + n * 2, k * d, d, table);
+    fills::fill_numbers(file, 10, n, assignment);
+    fills::fill_records(file, 11 + n * 2, k * d, d, table);
     ReadPolicy::Policy { n, k, d }
 }
 

@@ -1,17 +1,14 @@
-// The pieces of a file, read. A reader answers a place: the piece's end, or the first byte that does not fit it. Nothing is filled before
-// the whole file is known to fit.
+// The pieces of a file, read. A reader answers a place: the piece's end, or the first byte that does not fit it.
 ghost use mathlib.Core.Path.{_≡_};
 ghost use Prim.Native.Nat.{_+_, _*_, _≤_, _<_};
 ghost use lib.Dec.{leb};
 ghost use lib.ListN.{length, getD, drop};
-ghost use lib.Seq.{sets};
-ghost use Rattle.model.specs.Below.{any, tab};
-ghost use Rattle.layout.specs.Text.{each};
-ghost use Rattle.layout.specs.Layout.{reach, Piece, Value, Sizes, digitOf, cellOf, digitAt, numberAt, rowAt};
+ghost use Rattle.model.specs.Below.{any};
+ghost use Rattle.layout.specs.Layout.{reach, Piece, Value, Sizes, digitOf, cellOf, digitAt, numberAt};
 ghost use Rattle.layout.specs.Layout.{text, digit, number, cells, numbers, recordOf, records, close};
 
 // The value of a digit, and 10 of any other byte.
-fn digit_of(x: u8) -> usize
+pub fn digit_of(x: u8) -> usize
     ensures { λ r. ⌜ r ≡ digitOf x ⌝ }
 {
     if x < 48 {
@@ -24,7 +21,7 @@ fn digit_of(x: u8) -> usize
 }
 
 // The value of a cell's character, and 3 of any other byte.
-fn cell_of(x: u8) -> u8
+pub fn cell_of(x: u8) -> u8
     ensures { λ r. ⌜ r ≡ cellOf x ⌝ }
 {
     if x == 48 {
@@ -36,24 +33,6 @@ fn cell_of(x: u8) -> u8
     } else {
         3
     }
-}
-
-// The digit at a place.
-pub fn digit_at(s: &[u8], at: usize) -> usize
-    requires { ⌜ at < length (now s) ⌝ }
-    ensures { λ r. ⌜ r ≡ digitAt (now (s .entry)) at ⌝ }
-    ensures { λ r. ⌜ r ≤ 10 ⌝ }
-{
-    digit_of(s[at])
-}
-
-// The number of two digits at a place.
-pub fn number_at(s: &[u8], at: usize) -> usize
-    requires { ⌜ at + 1 < length (now s) ⌝ }
-    ensures { λ r. ⌜ r ≡ numberAt (now (s .entry)) at ⌝ }
-    ensures { λ r. ⌜ r ≤ 110 ⌝ }
-{
-    digit_at(s, at) * 10 + digit_at(s, at + 1)
 }
 
 // These bytes.
@@ -253,49 +232,4 @@ pub fn read_close(s: &[u8], at: usize) -> usize
         return closed;
     }
     closed + 1
-}
-
-// ---- the fills, once the file is known to fit
-
-// The values of w cells from `at` on, to `out` from `to` on.
-pub fn fill_cells(s: &[u8], at: usize, w: usize, out: &mut [u8], to: usize)
-    requires { ⌜ (at + w ≤ length (now s)) × (to + w ≤ length (now out)) ⌝ }
-    ensures { λ _. ⌜ now (out .exit) ≡ sets (now (out .entry)) to (tab w (λ i. cellOf (getD (now (s .entry)) (at + i) 0))) ⌝ }
-{
-    let mut i = 0;
-    while i < w {
-        out[to + i] = cell_of(s[at + i]);
-        i += 1;
-    }
-}
-
-// The values of the cells of c records.
-pub fn fill_records(s: &[u8], at: usize, w: usize, c: usize, out: &mut [u8])
-    requires { ⌜ (at + c * (w + 5) ≤ length (now s)) × (c * w ≤ length (now out)) ⌝ }
-    ensures { λ _. ⌜
-        now (out .exit)
-        ≡ sets (now (out .entry)) 0 (each c (rowAt (now (s .entry)) at w))
-        ⌝ }
-{
-    let mut from = at;
-    let mut to = 0;
-    let mut u = 0;
-    while u < c {
-        fill_cells(s, from + 4, w, out, to);
-        from += w + 5;
-        to += w;
-        u += 1;
-    }
-}
-
-// The values of n numbers.
-pub fn fill_numbers(s: &[u8], at: usize, n: usize, out: &mut [u8])
-    requires { ⌜ (at + n * 2 ≤ length (now s)) × (n ≤ length (now out)) ⌝ }
-    ensures { λ _. ⌜ now (out .exit) ≡ sets (now (out .entry)) 0 (tab n (λ u. numberAt (now (s .entry)) (at + u * 2))) ⌝ }
-{
-    let mut u = 0;
-    while u < n {
-        out[u] = number_at(s, at + u * 2) as u8;
-        u += 1;
-    }
 }

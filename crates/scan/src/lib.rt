@@ -1,17 +1,14 @@
-// Refusals are made here and nowhere else: the tests of arguments, in groups that each call joins in its own order, and the one
-// scan for the lowest place that is at fault.
+// Refusals are made here and nowhere else: the tests of arguments, in groups that each call joins in its own order.
 use model::Checked;
 use model::Refusal;
 ghost use mathlib.Core.Path.{_≡_};
 ghost use mathlib.Core.Bool.{cond};
 ghost use Prim.Native.Nat.{_*_, _≤_, _<_};
 ghost use lib.Dec.{leb};
-ghost use lib.ListN.{length, getD};
 ghost use Rattle.model.specs.declared.Checked.the-variants.{Fine, Bad};
-ghost use Rattle.model.specs.Below.{any};
 ghost use Rattle.model.specs.Matrix.{cellAt};
 ghost use Rattle.model.specs.Refusal.{refusal, cellRefusal, checked};
-ghost use Rattle.model.specs.Rules.{lowest, listRules, sizeRules, matrixRules, fullRules, wholeRules, assignmentRules, tableRules};
+ghost use Rattle.model.specs.Rules.{listRules, sizeRules, matrixRules, fullRules, wholeRules, assignmentRules, tableRules};
 ghost use Rattle.model.specs.Rules.{requestRules, pairRules, roomRules};
 
 // A refusal that names no cell.
@@ -29,66 +26,6 @@ pub fn refuse_cell(number: usize, k: usize, y: usize, cell: usize) -> Refusal
         number,
         place: cell,
     }
-}
-
-// Whether some byte is b or more. There is no branch inside, so that the compiler takes many bytes at a time.
-fn reaches(s: &[u8], b: u8) -> bool
-    ensures { λ r. ⌜ r ≡ any (length (now (s .entry))) (λ i. leb b (getD (now (s .entry)) i 0)) ⌝ }
-{
-    let mut found = false;
-    let mut i = 0;
-    while i < s.len() {
-        found = found | (b <= s[i]);
-        i += 1;
-    }
-    found
-}
-
-// The lowest place of a byte that is b or more, or the length: byte by byte.
-fn lowest_in(s: &[u8], b: u8) -> usize
-    ensures { λ r. ⌜ r ≡ lowest (leb b) (now (s .entry)) ⌝ }
-{
-    let mut i = 0;
-    while i < s.len() {
-        if b <= s[i] {
-            return i;
-        }
-        i += 1;
-    }
-    i
-}
-
-// The same by blocks: only the block that has such a byte is looked through.
-fn lowest_by_blocks(s: &[u8], b: u8) -> usize
-    ensures { λ r. ⌜ r ≡ lowest (leb b) (now (s .entry)) ⌝ }
-{
-    let mut i = 0;
-    while i < s.len() {
-        let e = block_end(i, s.len());
-        if reaches(&s[i..e], b) {
-            return i + lowest_in(&s[i..e], b);
-        }
-        i = e;
-    }
-    i
-}
-
-// The end of the block that starts at i.
-fn block_end(i: usize, end: usize) -> usize
-    requires { ⌜ i < end ⌝ }
-    ensures { λ r. ⌜ (i < r) × (r ≤ end) ⌝ }
-{
-    if 256 < end - i { i + 256 } else { end }
-}
-
-// The lowest place of a byte that is b or more, or the length.
-pub fn lowest_from(s: &[u8], b: usize) -> usize
-    ensures { λ r. ⌜ r ≡ lowest (leb b) (now (s .entry)) ⌝ }
-{
-    if 255 < b {
-        return s.len();
-    }
-    lowest_by_blocks(s, b as u8)
 }
 
 // Where cell (p, a, q) stands among x senders, k rights and y receivers.
@@ -134,7 +71,7 @@ fn cells_fit(
     if s.len() != x * k * y {
         return Checked::Bad(refuse(short, 0));
     }
-    let i = lowest_from(s, from);
+    let i = lowest::lowest_from(s, from);
     if i < s.len() {
         return Checked::Bad(refuse_cell(stray, k, y, i));
     }
@@ -154,7 +91,7 @@ pub fn full_fits(n: usize, k: usize, m: &[u8]) -> Checked
     requires { ⌜ checked (matrixRules n k (now m)) ≡ Fine ⌝ }
     ensures { λ r. ⌜ r ≡ checked (fullRules n k (now (m .entry))) ⌝ }
 {
-    let i = lowest_from(m, 2);
+    let i = lowest::lowest_from(m, 2);
     if i < m.len() {
         return Checked::Bad(refuse_cell(4, k, n, i));
     }
@@ -183,7 +120,7 @@ pub fn assignment_fits(n: usize, d: usize, s: &[u8]) -> Checked
     if s.len() != n {
         return Checked::Bad(refuse(5, 0));
     }
-    let i = lowest_from(s, d);
+    let i = lowest::lowest_from(s, d);
     if i < s.len() {
         return Checked::Bad(refuse(6, i));
     }

@@ -26,8 +26,8 @@ pub fn matrix_place(file: &[u8]) -> usize
     if headed < 6 {
         return headed;
     }
-    let n = readers::number_at(file, 2);
-    let k = readers::digit_at(file, 4);
+    let n = fills::number_at(file, 2);
+    let k = fills::digit_at(file, 4);
     let end = 6 + n * (k * n + 5);
     let filled = readers::read_records(file, 6, b"RW", 3, k * n, n);
     if filled < end {
@@ -61,9 +61,9 @@ pub fn policy_place(file: &[u8]) -> usize
     if headed < 8 {
         return headed;
     }
-    let n = readers::number_at(file, 2);
-    let k = readers::digit_at(file, 4);
-    let d = readers::number_at(file, 5);
+    let n = fills::number_at(file, 2);
+    let k = fills::digit_at(file, 4);
+    let d = fills::number_at(file, 5);
     let from = 11 + n * 2;
     let named = read_assigned(file, d, n);
     if named < from {
@@ -85,7 +85,7 @@ fn read_head(file: &[u8]) -> usize
     if sized < 5 {
         return sized;
     }
-    let n = readers::number_at(file, 2);
+    let n = fills::number_at(file, 2);
     let counted = readers::read_number(file, 5, least_domains(n), 65);
     if counted < 7 {
         return counted;

@@ -1,10 +1,10 @@
--- `readers::digit_at` meets its contract: a digit's value is at most 10. Assumes nothing.
+-- `fills::digit_at` meets its contract: a digit's value is at most 10. Assumes nothing.
 use native.Mathlib.Omega.{arith}
 use lib.ListN.{getD}
 use Rattle.layout.proofs.Pieces.{digit-small}
 use borrow.Author.Needs.{needs}
-use Rattle.readers.proofs.digit_at.Statement.{statement}
-use Rattle.readers.proofs.digit_at.Tie as tie
+use Rattle.fills.proofs.digit_at.Statement.{statement}
+use Rattle.fills.proofs.digit_at.Tie as tie
 
 shared-slice-read-digit-of : tie.Need-shared-slice-read-digit-of
 shared-slice-read-digit-of c = search needs

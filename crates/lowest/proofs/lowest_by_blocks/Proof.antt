@@ -1,4 +1,4 @@
--- `scan::lowest_by_blocks` meets its contract. The invariant: none of the first i bytes is b or more. A block with no such byte
+-- `lowest::lowest_by_blocks` meets its contract. The invariant: none of the first i bytes is b or more. A block with no such byte
 -- moves i to its end; in the first block that has one, its lowest place is the whole's. Assumes nothing.
 use borrow.Author.Needs.{needs}
 use mathlib.Core.Path.{_≡_, sym, ap, _∙_}
@@ -11,9 +11,9 @@ use Rattle.model.specs.Below.{any}
 use Rattle.model.specs.Rules.{lowest}
 use Rattle.model.proofs.Slices.{part, part-length}
 use Rattle.model.proofs.Loops.{any-none}
-use Rattle.scan.proofs.Lowest.{at, block-none, block-some, lowest-end, lowest-le}
-use Rattle.scan.proofs.lowest_by_blocks.Statement.{statement}
-use Rattle.scan.proofs.lowest_by_blocks.Tie as tie
+use Rattle.lowest.proofs.Lowest.{at, block-none, block-some, lowest-end, lowest-le}
+use Rattle.lowest.proofs.lowest_by_blocks.Statement.{statement}
+use Rattle.lowest.proofs.lowest_by_blocks.Tie as tie
 
 abbrev Inv-loop : tie.InvT-loop
 Inv-loop s b i₀ i = (i ≤ length s) × (any i (at (leb b) s) ≡ false)

@@ -1,4 +1,4 @@
--- `readers::fill_records` meets its contract. The invariant: the values of the first u records' cells are written, `from` is where record u
+-- `fills::fill_records` meets its contract. The invariant: the values of the first u records' cells are written, `from` is where record u
 -- begins, and `to` is where its values go. Assumes nothing.
 use mathlib.Core.Path.{_≡_, ap}
 use Prim.Native.Nat.{_+_, _-_, _*_, _≤_}
@@ -10,8 +10,8 @@ use Rattle.layout.specs.Text.{each}
 use Rattle.layout.specs.Layout.{rowAt}
 use Rattle.layout.proofs.Puts.{each-start, each-turn, piece-ends}
 use borrow.Author.Needs.{needs}
-use Rattle.readers.proofs.fill_records.Statement.{statement}
-use Rattle.readers.proofs.fill_records.Tie as tie
+use Rattle.fills.proofs.fill_records.Statement.{statement}
+use Rattle.fills.proofs.fill_records.Tie as tie
 
 abbrev Inv-loop : tie.InvT-loop
 Inv-loop s at w c out₀ from₀ to₀ u₀ out from to u = (u ≤ c) × (from ≡ at + u * (w + 5)) × (to ≡ u * w) × (out ≡ sets out₀ 0 (each u (rowAt s at w)))

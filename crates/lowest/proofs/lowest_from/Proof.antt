@@ -1,9 +1,9 @@
--- `scan::lowest_from` meets its contract: no byte is above 255, and for a smaller b the blocks are scanned. Assumes nothing.
+-- `lowest::lowest_from` meets its contract: no byte is above 255, and for a smaller b the blocks are scanned. Assumes nothing.
 use native.Mathlib.Omega.{arith}
-use Rattle.scan.proofs.Lowest.{lowest-past}
+use Rattle.lowest.proofs.Lowest.{lowest-past}
 use borrow.Author.Needs.{needs}
-use Rattle.scan.proofs.lowest_from.Statement.{statement}
-use Rattle.scan.proofs.lowest_from.Tie as tie
+use Rattle.lowest.proofs.lowest_from.Statement.{statement}
+use Rattle.lowest.proofs.lowest_from.Tie as tie
 
 returns : tie.Need-returns
 returns c = let a = c .before .before .args in lowest-past (a .b) (a .s .now) (omega arith) (λ i. c .before .shared-slice-known .given i .fits)

@@ -1,7 +1,7 @@
--- `scan::block_end` meets its contract: each arm's end is past i and not past the end. Assumes nothing.
+-- `lowest::block_end` meets its contract: each arm's end is past i and not past the end. Assumes nothing.
 use native.Mathlib.Omega.{arith}
-use Rattle.scan.proofs.block_end.Statement.{statement}
-use Rattle.scan.proofs.block_end.Tie as tie
+use Rattle.lowest.proofs.block_end.Statement.{statement}
+use Rattle.lowest.proofs.block_end.Tie as tie
 
 sub-if1 : tie.Need-sub-if1
 sub-if1 c = omega arith

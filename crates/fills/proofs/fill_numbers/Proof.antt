@@ -1,4 +1,4 @@
--- `readers::fill_numbers` meets its contract. The invariant: the values of the first u numbers are written. Assumes nothing.
+-- `fills::fill_numbers` meets its contract. The invariant: the values of the first u numbers are written. Assumes nothing.
 use mathlib.Core.Path.{_≡_, ap}
 use mathlib.Core.List.{List}
 use Prim.Native.Nat.{ℕ, _+_, _-_, _*_, _≤_}
@@ -9,8 +9,8 @@ use Rattle.model.specs.Below.{tab}
 use Rattle.layout.specs.Layout.{numberAt}
 use Rattle.layout.proofs.Puts.{tab-start, tab-turn}
 use borrow.Author.Needs.{needs}
-use Rattle.readers.proofs.fill_numbers.Statement.{statement}
-use Rattle.readers.proofs.fill_numbers.Tie as tie
+use Rattle.fills.proofs.fill_numbers.Statement.{statement}
+use Rattle.fills.proofs.fill_numbers.Tie as tie
 
 abbrev value : List ℕ → ℕ → ℕ → ℕ
 value s at u = numberAt s (at + u * 2)

@@ -1,4 +1,4 @@
--- `scan::lowest_in` meets its contract. The invariant: none of the first i bytes is b or more. Assumes nothing.
+-- `lowest::lowest_in` meets its contract. The invariant: none of the first i bytes is b or more. Assumes nothing.
 use borrow.Author.Needs.{needs}
 use mathlib.Core.Path.{_≡_, sym, _∙_}
 use mathlib.Core.Bool.{false}
@@ -9,9 +9,9 @@ use lib.Dec.{leb}
 use lib.ListN.{length, getD}
 use Rattle.model.specs.Below.{any}
 use Rattle.model.proofs.Loops.{any-none, any-next}
-use Rattle.scan.proofs.Lowest.{at, lowest-here, lowest-end}
-use Rattle.scan.proofs.lowest_in.Statement.{statement}
-use Rattle.scan.proofs.lowest_in.Tie as tie
+use Rattle.lowest.proofs.Lowest.{at, lowest-here, lowest-end}
+use Rattle.lowest.proofs.lowest_in.Statement.{statement}
+use Rattle.lowest.proofs.lowest_in.Tie as tie
 
 abbrev Inv-loop : tie.InvT-loop
 Inv-loop s b i₀ i = (i ≤ length s) × (any i (at (leb b) s) ≡ false)

@@ -1,4 +1,4 @@
--- `scan::reaches` meets its contract. The invariant: `found` says whether one of the first i bytes is b or more. Assumes nothing.
+-- `lowest::reaches` meets its contract. The invariant: `found` says whether one of the first i bytes is b or more. Assumes nothing.
 use borrow.Author.Needs.{needs}
 use mathlib.Core.Path.{_≡_, sym}
 use Prim.Native.Nat.{_-_, _≤_}
@@ -7,9 +7,9 @@ use lib.Dec.{leb}
 use lib.ListN.{length}
 use Rattle.model.specs.Below.{any}
 use Rattle.model.proofs.Loops.{any-none, any-next}
-use Rattle.scan.proofs.Lowest.{at}
-use Rattle.scan.proofs.reaches.Statement.{statement}
-use Rattle.scan.proofs.reaches.Tie as tie
+use Rattle.lowest.proofs.Lowest.{at}
+use Rattle.lowest.proofs.reaches.Statement.{statement}
+use Rattle.lowest.proofs.reaches.Tie as tie
 
 abbrev Inv-loop : tie.InvT-loop
 Inv-loop s b found₀ i₀ found i = (i ≤ length s) × (found ≡ any i (at (leb b) s))

@@ -1,4 +1,4 @@
--- `readers::fill_cells` meets its contract. The invariant: the values of the first i cells are written. Assumes nothing.
+-- `fills::fill_cells` meets its contract. The invariant: the values of the first i cells are written. Assumes nothing.
 use mathlib.Core.Path.{_≡_, refl, ap}
 use mathlib.Core.List.{List}
 use Prim.Native.Nat.{ℕ, _+_, _-_, _≤_}
@@ -9,8 +9,8 @@ use Rattle.model.specs.Below.{tab}
 use Rattle.layout.specs.Layout.{cellOf}
 use Rattle.layout.proofs.Puts.{tab-start, tab-turn}
 use borrow.Author.Needs.{needs}
-use Rattle.readers.proofs.fill_cells.Statement.{statement}
-use Rattle.readers.proofs.fill_cells.Tie as tie
+use Rattle.fills.proofs.fill_cells.Statement.{statement}
+use Rattle.fills.proofs.fill_cells.Tie as tie
 
 abbrev cell : List ℕ → ℕ → ℕ → ℕ
 cell s at i = cellOf (getD s (at + i) 0)
