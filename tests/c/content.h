@@ -18,6 +18,9 @@ struct content {
 struct content of_sizes(bool policy, size_t n, size_t k, size_t d);
 void forget(struct content c);
 
+/* the word of a refusal */
+static inline uint64_t refusal(unsigned number, size_t place) { return number | (uint64_t)place << 8; }
+
 /* a read with buffers of s and t bytes, of which a matrix takes the second alone; plain C's answer, or what that should be */
 uint64_t read_file(const char *what, bool policy, struct bytes file, size_t s, size_t t);
 void reads(const char *what, bool policy, struct bytes file, size_t s, size_t t, uint64_t want);

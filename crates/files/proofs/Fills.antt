@@ -45,96 +45,116 @@ filled new x x′ h e = e ∙ put-whole new x h
 
 -- ---- a matrix
 
-module _ (s x : List ℕ) (place : ℕ) (e : place ≡ reach matrixLayout s) where
-  pub matrix-bad : (r : Refusal) → (place ≤ length s) × (r ≡ refusal 12 place) → MatrixRead s x (refused r) x
-  matrix-bad r (h, q) = MatrixRead.malformed place (matrix-malformed s place e h) (ap refused q) refl
+pub matrix-bad : (s x : List ℕ) (place : ℕ) (r : Refusal) → place ≡ reach matrixLayout s → (place ≤ length s) × (r ≡ refusal 12 place)
+    → MatrixRead s x (refused r) x
+matrix-bad s x place r e (h, q) = MatrixRead.malformed place (matrix-malformed s place e h) (ap refused q) refl
 
-  pub matrix-least : length s < place → 9 ≤ length s
-  matrix-least h = let (n, k, m, f) = matrix-formed s place e h in omega (arith, matrix-says f .long)
+pub matrix-least : (s : List ℕ) (place : ℕ) → place ≡ reach matrixLayout s → length s < place → 9 ≤ length s
+matrix-least s place e h = let (n, k, m, f) = matrix-formed s place e h in omega (arith, matrix-says f .long)
 
-  module _ (h : length s < place) (n k : ℕ) (en : n ≡ numberAt s 2) (ek : k ≡ digitAt s 4) where
-    here : (m : List ℕ) × MatrixFile n k m s
-    here =
-        let (n′, k′, m, f) = matrix-formed s place e h in
-        let w = matrix-says f in
-        (m, subst (λ (z : ℕ). MatrixFile n z m s) (sym (ek ∙ w .rights)) (subst (λ (z : ℕ). MatrixFile z k′ m s) (sym (en ∙ w .entities)) f))
+-- the check went past the end, and n and k are the numbers that the file has
+pub record MatrixFits (s : List ℕ) (n k : ℕ) : Type 0 where
+  pub place : ℕ
+  pub reached : place ≡ reach matrixLayout s
+  pub past : length s < place
+  pub entities : n ≡ numberAt s 2
+  pub rights : k ≡ digitAt s 4
 
-    -- the file that was read
-    matrix-here : MatrixFile n k (here .0) s
-    matrix-here = here .1
+module _ {s : List ℕ} {n k : ℕ} (F : MatrixFits s n k) where
+  here : (m : List ℕ) × MatrixFile n k m s
+  here =
+      let (n′, k′, m, f) = matrix-formed s (F .place) (F .reached) (F .past) in
+      let w = matrix-says f in (
+        m,
+        subst (λ (z : ℕ). MatrixFile n z m s) (sym (F .rights ∙ w .rights)) (subst (λ (z : ℕ). MatrixFile z k′ m s) (sym (F .entities ∙ w .entities)) f),
+      )
 
-    pub matrix-limits : Short n k
-    matrix-limits = short (matrix-here .laid .entities) (matrix-here .laid .rights)
+  -- the file that was read
+  matrix-here : MatrixFile n k (here .0) s
+  matrix-here = here .1
 
-    says : MatrixSays n k (here .0) s
-    says = matrix-says matrix-here
+  pub matrix-limits : Short n k
+  matrix-limits = short (matrix-here .laid .entities) (matrix-here .laid .rights)
 
-    pub matrix-long : length s ≡ 9 + n * (k * n + 5)
-    matrix-long = says .long
+  says : MatrixSays n k (here .0) s
+  says = matrix-says matrix-here
 
-    room : matrixRoom (here .0) x ≡ checked (roomRules 11 (length x) (n * (k * n)))
-    room = ap (λ (z : ℕ). checked (roomRules 11 (length x) z)) (says .size)
+  pub matrix-long : length s ≡ 9 + n * (k * n + 5)
+  matrix-long = says .long
 
-    pub matrix-short : (r : Refusal) → checked (roomRules 11 (length x) (n * (k * n))) ≡ Bad r → MatrixRead s x (refused r) x
-    matrix-short r q =
-        let c = matrixRoom (here .0) x in
-        MatrixRead.formed n k (here .0) matrix-here (tell-bad c r (room ∙ q) (n ∷ k ∷ [])) (held-bad c r (room ∙ q) (here .0) x)
+  room : (x : List ℕ) → matrixRoom (here .0) x ≡ checked (roomRules 11 (length x) (n * (k * n)))
+  room x = ap (λ (z : ℕ). checked (roomRules 11 (length x) z)) (says .size)
 
-    pub matrix-filled : (x′ : List ℕ) → checked (roomRules 11 (length x) (n * (k * n))) ≡ Fine → x′ ≡ sets x 0 (each n (rowAt s 6 (k * n)))
-        → MatrixRead s x (values (n ∷ k ∷ [])) x′
-    matrix-filled x′ q f =
-        let c = matrixRoom (here .0) x in
-        let m = here .0 in
-        let enough = room-fine 11 (length x) (n * (k * n)) q in
-        let g = filled m x x′ (omega (arith, enough, says .size)) (f ∙ ap (sets x 0) (says .matrix)) in
-        MatrixRead.formed n k m matrix-here (tell-fine c (room ∙ q) (n ∷ k ∷ [])) (g ∙ held-fine c (room ∙ q) m x (length m) refl)
+  pub matrix-short : (x : List ℕ) (r : Refusal) → checked (roomRules 11 (length x) (n * (k * n))) ≡ Bad r → MatrixRead s x (refused r) x
+  matrix-short x r q =
+      let c = matrixRoom (here .0) x in
+      MatrixRead.formed n k (here .0) matrix-here (tell-bad c r (room x ∙ q) (n ∷ k ∷ [])) (held-bad c r (room x ∙ q) (here .0) x)
+
+  pub matrix-filled : (x x′ : List ℕ) → checked (roomRules 11 (length x) (n * (k * n))) ≡ Fine → x′ ≡ sets x 0 (each n (rowAt s 6 (k * n)))
+      → MatrixRead s x (values (n ∷ k ∷ [])) x′
+  matrix-filled x x′ q f =
+      let c = matrixRoom (here .0) x in
+      let m = here .0 in
+      let enough = room-fine 11 (length x) (n * (k * n)) q in
+      let g = filled m x x′ (omega (arith, enough, says .size)) (f ∙ ap (sets x 0) (says .matrix)) in
+      MatrixRead.formed n k m matrix-here (tell-fine c (room x ∙ q) (n ∷ k ∷ [])) (g ∙ held-fine c (room x ∙ q) m x (length m) refl)
 
 -- ---- a policy
 
-module _ (s x y : List ℕ) (place : ℕ) (e : place ≡ reach policyLayout s) where
-  pub policy-bad : (r : Refusal) → (place ≤ length s) × (r ≡ refusal 12 place) → PolicyRead s x y (refused r) x y
-  policy-bad r (h, q) = PolicyRead.malformed place (policy-malformed s place e h) (ap refused q) refl refl
+pub policy-bad : (s x y : List ℕ) (place : ℕ) (r : Refusal) → place ≡ reach policyLayout s → (place ≤ length s) × (r ≡ refusal 12 place)
+    → PolicyRead s x y (refused r) x y
+policy-bad s x y place r e (h, q) = PolicyRead.malformed place (policy-malformed s place e h) (ap refused q) refl refl
 
-  pub policy-least : length s < place → 14 ≤ length s
-  policy-least h = let (n, k, P, f) = policy-formed s place e h in omega (arith, policy-says f .long)
+pub policy-least : (s : List ℕ) (place : ℕ) → place ≡ reach policyLayout s → length s < place → 14 ≤ length s
+policy-least s place e h = let (n, k, P, f) = policy-formed s place e h in omega (arith, policy-says f .long)
 
-  module _ (h : length s < place) (n k d : ℕ) (en : n ≡ numberAt s 2) (ek : k ≡ digitAt s 4) (ed : d ≡ numberAt s 5) where
-    there : (P : Policy) × PolicyFile n k P s × (P .domains ≡ d)
-    there =
-        let (n′, k′, P, f) = policy-formed s place e h in
-        let w = policy-says f in (
-          P,
-          subst (λ (z : ℕ). PolicyFile n z P s) (sym (ek ∙ w .rights)) (subst (λ (z : ℕ). PolicyFile z k′ P s) (sym (en ∙ w .entities)) f),
-          sym (ed ∙ w .domains),
-        )
+-- the same of a policy's file
+pub record PolicyFits (s : List ℕ) (n k d : ℕ) : Type 0 where
+  pub place : ℕ
+  pub reached : place ≡ reach policyLayout s
+  pub past : length s < place
+  pub entities : n ≡ numberAt s 2
+  pub rights : k ≡ digitAt s 4
+  pub domains : d ≡ numberAt s 5
 
-    P : Policy
-    P = there .0
+module _ {s : List ℕ} {n k d : ℕ} (F : PolicyFits s n k d) where
+  there : (P : Policy) × PolicyFile n k P s × (P .domains ≡ d)
+  there =
+      let (n′, k′, P, f) = policy-formed s (F .place) (F .reached) (F .past) in
+      let w = policy-says f in (
+        P,
+        subst (λ (z : ℕ). PolicyFile n z P s) (sym (F .rights ∙ w .rights)) (subst (λ (z : ℕ). PolicyFile z k′ P s) (sym (F .entities ∙ w .entities)) f),
+        sym (F .domains ∙ w .domains),
+      )
 
-    -- the file that was read
-    policy-here : PolicyFile n k P s
-    unfolding P
-    policy-here = there .1
+  P : Policy
+  P = there .0
 
-    domains-are : P .domains ≡ d
-    unfolding P
-    domains-are = there .2
+  -- the file that was read
+  policy-here : PolicyFile n k P s
+  unfolding P
+  policy-here = there .1
 
-    pub policy-limits : Short d k
-    policy-limits = short (omega (arith, domains-are, policy-here .domains)) (policy-here .rights)
+  domains-are : P .domains ≡ d
+  unfolding P
+  domains-are = there .2
 
-    pub policy-entities : n ≤ 64
-    policy-entities = policy-here .entities
+  pub policy-limits : Short d k
+  policy-limits = short (omega (arith, domains-are, policy-here .domains)) (policy-here .rights)
 
-    said : PolicySays n k P s
-    said = policy-says policy-here
+  pub policy-entities : n ≤ 64
+  policy-entities = policy-here .entities
 
-    pub policy-long : length s ≡ 14 + n * 2 + d * (k * d + 5)
-    policy-long = said .long ∙ ap (λ (z : ℕ). 14 + n * 2 + z * (k * z + 5)) domains-are
+  said : PolicySays n k P s
+  said = policy-says policy-here
 
-    table-size : length (P .table) ≡ d * (k * d)
-    table-size = said .size ∙ ap (λ (z : ℕ). z * (k * z)) domains-are
+  pub policy-long : length s ≡ 14 + n * 2 + d * (k * d + 5)
+  policy-long = said .long ∙ ap (λ (z : ℕ). 14 + n * 2 + z * (k * z + 5)) domains-are
 
+  table-size : length (P .table) ≡ d * (k * d)
+  table-size = said .size ∙ ap (λ (z : ℕ). z * (k * z)) domains-are
+
+  module _ (x y : List ℕ) where
     room-x : checked (roomRules 10 (length x) (length (P .assignment))) ≡ checked (roomRules 10 (length x) n)
     room-x = ap (λ (z : ℕ). checked (roomRules 10 (length x) z)) (policy-here .valid .entities)
 
@@ -165,7 +185,8 @@ module _ (s x y : List ℕ) (place : ℕ) (e : place ≡ reach policyLayout s) w
       policy-filled x′ y′ q f g =
           let c = policyRoom P x y in
           let fine : c ≡ Fine = both-rooms ∙ q in
-          let names = filled (P .assignment) x x′ (omega (arith, room-fine 10 (length x) n roomy, policy-here .valid .entities)) (f ∙ ap (sets x 0) (said .assignment)) in
+          let wide = room-fine 10 (length x) n roomy in
+          let names = filled (P .assignment) x x′ (omega (arith, wide, policy-here .valid .entities)) (f ∙ ap (sets x 0) (said .assignment)) in
           let rows : each d (rowAt s (11 + n * 2) (k * d)) ≡ P .table =
           ap (λ (z : ℕ). each z (rowAt s (11 + n * 2) (k * z))) (sym domains-are) ∙ said .table in
           let cells = filled (P .table) y y′ (omega (arith, room-fine 11 (length y) (d * (k * d)) q, table-size)) (g ∙ ap (sets y 0) rows) in

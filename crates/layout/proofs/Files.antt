@@ -41,15 +41,15 @@ module _ (mark : List ℕ) (F : ℕ → ℕ → Layout) where
   sizes-in : (s : List ℕ) → Of (sizes mark F) s → Sized s
   unfolding sizes
   sizes-in s h =
-      let (x, s₁, o₁, e₁, h₁) = texts-text mark .into (number 0 65 (λ n. digit 1 9 (F n))) s h in
-      let (n, s₂, o₂, e₂, h₂) = number-in 0 65 (λ n. digit 1 9 (F n)) (omega arith) s₁ h₁ in
-      let (k, s₃, o₃, e₃, h₃) = digit-in 1 9 (F n) (omega arith) s₂ h₂ in
+      let (x, s₁, o₁, e₁, h₁) = texts-text mark .into _ s h in
+      let (n, s₂, o₂, e₂, h₂) = number-in _ _ _ (omega arith) s₁ h₁ in
+      let (k, s₃, o₃, e₃, h₃) = digit-in _ _ _ (omega arith) s₂ h₂ in
       record {
         n = n;
         k = k;
         rest = s₃;
         entities = omega (arith, o₂ .1);
-        right = o₃ .0;
+        right = omega (arith, o₃ .0);
         rights = omega (arith, o₃ .1);
         is = joined mark (two n) s s₁ (one k ++ s₃) e₁ (joined (two n) (one k) s₁ s₂ s₃ e₂ e₃);
         of = h₃;
@@ -123,7 +123,7 @@ module _ (s : List ℕ) where
   matrix-in : Of matrixLayout s → MatrixFormed s
   unfolding matrixLayout matrixText
   matrix-in h =
-      let z = sizes-in MX (λ n k. tail RW 3 (k * n) n) s h in
+      let z = sizes-in MX _ s h in
       let (m, f, e) = tail-in RW 3 (z .k * z .n) (z .n) (omega arith) (omega arith) (omega (arith, z .entities)) (z .rest) (z .of) in
       let g = resized (z .n) (z .k) (z .n) 3 m f in (
         z .n,
@@ -179,7 +179,8 @@ least-le n d f = go (decLt 0 n)
 
 module _ (n k d : ℕ) (some : 0 < n → 0 < d) (few : d ≤ 64) where
   assigned-is : (E R s₁ s₂ s₃ : List ℕ) → s₁ ≡ AS ++ s₂ → s₂ ≡ E ++ s₃ → s₃ ≡ 10 ∷ R → s₁ ≡ AS ++ ((E ++ (10 ∷ [])) ++ R)
-  assigned-is E R s₁ s₂ s₃ a b c = joined AS E s₁ s₂ (10 ∷ R) a (b ∙ ap (λ (l : List ℕ). E ++ l) c) ∙ ap (λ (l : List ℕ). AS ++ l) (sym (append-assoc E (10 ∷ []) R))
+  assigned-is E R s₁ s₂ s₃ a b c =
+      joined AS E s₁ s₂ (10 ∷ R) a (b ∙ ap (λ (l : List ℕ). E ++ l) c) ∙ ap (λ (l : List ℕ). AS ++ l) (sym (append-assoc E (10 ∷ []) R))
 
   body-in : (s : List ℕ) → Of (body n k d) s
       → (l : List ℕ) × (t : List ℕ) × Filled n d l × Filled (d * (k * d)) 2 t
@@ -221,8 +222,8 @@ module _ (s : List ℕ) where
   policy-in : Of policyLayout s → PolicyFormed s
   unfolding policyLayout policySizes assigned policyText domainOf least
   policy-in h =
-      let z = sizes-in PD policyRest s h in
-      let (d, s₁, o₁, e₁, h₁) = number-in (least (z .n)) 65 (body (z .n) (z .k)) (omega arith) (z .rest) (z .of) in
+      let z = sizes-in PD _ s h in
+      let (d, s₁, o₁, e₁, h₁) = number-in _ _ _ (omega arith) (z .rest) (z .of) in
       let (l, t, f, g, e₂) = body-in (z .n) (z .k) d (least-some (z .n) d (o₁ .0)) (omega (arith, o₁ .1)) s₁ h₁ in
       let r = resized d (z .k) d 2 t g in (
         z .n,

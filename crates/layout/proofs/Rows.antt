@@ -132,7 +132,8 @@ texts-record : (mark : List ℕ) (lim w u : ℕ) → 0 < lim → lim ≤ 3 → u
     → Texts (ℕ → ℕ) (λ g. (i : ℕ) → i < w → g i < lim) (rowText mark w u) (recordOf mark lim w u)
 unfolding recordOf
 texts-record mark lim w u some few h = texts-as
-    (texts-then (texts-text mark) (texts-then (texts-number u (suc u) (omega arith) (omega arith)) (texts-then (texts-cells lim w some few) (texts-text (10 ∷ [])))))
+    (texts-then (texts-text mark) (texts-then (texts-number u (suc u) (omega arith) (omega arith))
+    (texts-then (texts-cells lim w some few) (texts-text (10 ∷ [])))))
     (λ x o. let e : x .1 .0 ≡ u = omega (arith, o .1 .0) in (x .1 .1 .0, o .1 .1 .0, joined x ∙ ap (λ (y : ℕ). rowText mark w y (x .1 .1 .0)) e))
     (λ g o. ((tt, (u, (g, tt))), (tt, ((omega arith, omega arith), (o, tt))), joined (tt, (u, (g, tt)))))
   where
@@ -144,7 +145,8 @@ pub texts-records : (mark : List ℕ) (lim w c : ℕ) → 0 < lim → lim ≤ 3 
     → Texts (List ℕ) (Filled (c * w) lim) (λ l. each c (recordText mark w l)) (records mark lim w c)
 unfolding records
 texts-records mark lim w c some few h = texts-as
-    (texts-times (λ _ g. (i : ℕ) → i < w → g i < lim) (rowText mark w) (recordOf mark lim w) (λ _. 0) c (λ u l. texts-record mark lim w u some few (omega arith)))
+    (texts-times (λ _ g. (i : ℕ) → i < w → g i < lim) (rowText mark w) (recordOf mark lim w) (λ _. 0) c
+    (λ u l. texts-record mark lim w u some few (omega arith)))
     (λ g o. (
       flat g,
       listed (λ i l. inside g o i l),

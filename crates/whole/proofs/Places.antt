@@ -28,7 +28,8 @@ module _ (s : List ℕ) (n k sized : ℕ) (z : Sizes s sized MX n k) where
     to-records =
         let q = z .stops (λ n k. text (10 ∷ []) (records RW 3 (k * n) n close)) in
         let e : sized ≡ 5 = omega (arith, q .within) in
-        on q h (subst (λ (i : ℕ). Stops s i 6 headed (text (10 ∷ []) (records RW 3 (k * n) n close)) (records RW 3 (k * n) n close)) (sym e) (p (records RW 3 (k * n) n close)))
+        let rest : Layout = records RW 3 (k * n) n close in
+        on q h (subst (λ (i : ℕ). Stops s i 6 headed (text (10 ∷ []) rest) rest) (sym e) (p rest))
 
     pub matrix-headed : headed < 6 → headed ≡ reach matrixLayout s
     matrix-headed l = fell-short to-records l

@@ -33,4 +33,5 @@ abbrev pub WriteMatrixKept : Type 0
 WriteMatrixKept = (n k : ℕ) (m x x′ : List ℕ) (t : Told) → Written (matrixWriteRules n k m (length x)) (matrixText n k m) x t x′ → Kept (24 ∷ []) 32 t
 
 abbrev pub WritePolicyKept : Type 0
-WritePolicyKept = (n k : ℕ) (P : Policy) (x x′ : List ℕ) (t : Told) → Written (policyWriteRules n k P (length x)) (policyText n k P) x t x′ → Kept (24 ∷ []) 32 t
+WritePolicyKept = (n k : ℕ) (P : Policy) (x x′ : List ℕ) (t : Told)
+    → Written (policyWriteRules n k P (length x)) (policyText n k P) x t x′ → Kept (24 ∷ []) 32 t

@@ -37,7 +37,9 @@ enum-known-cells : tie.Need-enum-known-cells
 enum-known-cells c = search needs
 
 returns-2 : tie.Need-returns-2
-returns-2 c = matrix-cells-bad _ _ _ _ (sized (c .before .before .before .before)) _ (sym (c .before .before .before .matrix-fits .ensures) ∙ c .before .cells .given .1)
+returns-2 c =
+    let bad = sym (c .before .before .before .matrix-fits .ensures) ∙ c .before .cells .given .1 in
+    matrix-cells-bad _ _ _ _ (sized (c .before .before .before .before)) _ bad
 
 enum-told-2 : tie.Need-enum-told-2
 enum-told-2 c = search needs

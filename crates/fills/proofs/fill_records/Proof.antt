@@ -1,13 +1,14 @@
 -- `fills::fill_records` meets its contract. The invariant: the values of the first u records' cells are written, `from` is where record u
 -- begins, and `to` is where its values go. Assumes nothing.
-use mathlib.Core.Path.{_≡_, ap}
-use Prim.Native.Nat.{_+_, _-_, _*_, _≤_}
+use mathlib.Core.Path.{_≡_, ap, _∙_}
+use Prim.Native.Nat.{ℕ, _+_, _-_, _*_, _≤_}
 use native.Mathlib.Omega.{arith}
-use lib.ListN.{length}
+use lib.ListN.{length, getD}
 use lib.Seq.{sets, length-sets}
+use Rattle.model.specs.Below.{tab}
 use Rattle.model.proofs.Below.{length-tab}
 use Rattle.layout.specs.Text.{each}
-use Rattle.layout.specs.Layout.{rowAt}
+use Rattle.layout.specs.Layout.{cellOf, rowAt}
 use Rattle.layout.proofs.Puts.{each-start, each-turn, piece-ends}
 use borrow.Author.Needs.{needs}
 use Rattle.fills.proofs.fill_records.Statement.{statement}
@@ -60,7 +61,8 @@ loop-again : tie.Need-loop-again Inv-loop μ-loop
 loop-again c =
     let a = c .before .before .before .before .before .before .before .before .args in
     let l = c .before .before .before .before .before .loop in
-    let filled = rw (l .inv .1) at (c .before .before .fill-cells .ensures) in (
+    let place : l .from + 4 ≡ a .at + l .u * (a .w + 5) + 4 = omega arith in
+    let filled = c .before .before .fill-cells .ensures ∙ ap (λ (f : ℕ). sets (l .out) (l .to) (tab (a .w) (λ i. cellOf (getD (a .s .now) (f + i) 0)))) place in (
       omega arith,
       omega arith,
       omega arith,

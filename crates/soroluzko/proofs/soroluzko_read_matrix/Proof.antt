@@ -20,6 +20,9 @@ told c = ap readMatrixTold (c .before .read .given .1)
 fits : (c : tie.After-known-told) → let g = c .before .read .given .0 in Fit (8 ∷ 8 ∷ []) (g .0 ∷ g .1 .0 ∷ [])
 fits c = subst (Held (8 ∷ 8 ∷ [])) (told c) (matrix-read-held _ _ _ _ (c .before .before .before .before .before .read-matrix .ensures))
 
+small : (c : tie.After-known-told) → let g = c .before .read .given .0 in (g .0 < 2 ^ 8) × (g .1 .0 < 2 ^ 8)
+small c = (fit-first (fits c), fit-first (fit-rest (fits c)))
+
 read-matrix-requires : tie.Need-read-matrix-requires
 read-matrix-requires c κs = search needs
 
@@ -27,19 +30,21 @@ enum-known-read : tie.Need-enum-known-read
 enum-known-read c = search needs
 
 mul-result : tie.Need-mul-result
-mul-result c = omega (arith, fit-first (fits c))
+mul-result c = omega (arith, small c)
 
 mul-result-2 : tie.Need-mul-result-2
-mul-result-2 c = omega (arith, fit-first (fit-rest (fits c)))
+mul-result-2 c = omega (arith, small c)
 
 add-result : tie.Need-add-result
-add-result c = omega (arith, fit-first (fits c), fit-first (fit-rest (fits c)))
+add-result c = omega (arith, small c)
 
 enum-known-read-2 : tie.Need-enum-known-read-2
 enum-known-read-2 c = search needs
 
 refusal-word-requires : tie.Need-refusal-word-requires
-refusal-word-requires c κs = subst (Held (8 ∷ 8 ∷ [])) (ap readMatrixTold (c .before .read2 .given .1)) (matrix-read-held _ _ _ _ (c .before .before .before .before .before .read-matrix .ensures))
+refusal-word-requires c κs =
+    let refused = ap readMatrixTold (c .before .read2 .given .1) in
+    subst (Held (8 ∷ 8 ∷ [])) refused (matrix-read-held _ _ _ _ (c .before .before .before .before .before .read-matrix .ensures))
 
 same-length : tie.Need-same-length
 same-length c = search needs
@@ -57,7 +62,9 @@ same-length-2 c = search needs
 
 returns-2 : tie.Need-returns-2
 unfolding word fields
-returns-2 c = (_, c .refusal-word .ensures ∙ ap (word (8 ∷ 8 ∷ [])) (sym (ap readMatrixTold (c .before .before .read2 .given .1))), c .before .before .before .before .before .before .read-matrix .ensures)
+returns-2 c =
+    let refused = ap readMatrixTold (c .before .before .read2 .given .1) in
+    (_, c .refusal-word .ensures ∙ ap (word (8 ∷ 8 ∷ [])) (sym refused), c .before .before .before .before .before .before .read-matrix .ensures)
 
 pub soroluzko-read-matrix-spec : {M : Type 1} → statement M
 soroluzko-read-matrix-spec =

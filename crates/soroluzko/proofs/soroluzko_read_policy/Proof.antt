@@ -13,12 +13,16 @@ use Rattle.soroluzko.proofs.soroluzko_read_policy.Statement.{statement}
 use Rattle.soroluzko.proofs.soroluzko_read_policy.Tie as tie
 
 told : (c : tie.After-known-told)
-    → let g = c .before .read .given .0 in readPolicyTold (c .before .before .before .before .before .before .before .read-policy .result) ≡ values (g .0 ∷ g .1 .0 ∷ g .1 .1 .0 ∷ [])
+    → let g = c .before .read .given .0 in
+    readPolicyTold (c .before .before .before .before .before .before .before .read-policy .result) ≡ values (g .0 ∷ g .1 .0 ∷ g .1 .1 .0 ∷ [])
 told c = ap readPolicyTold (c .before .read .given .1)
 
 -- the three numbers have room in their fields
 fits : (c : tie.After-known-told) → let g = c .before .read .given .0 in Fit (8 ∷ 8 ∷ 8 ∷ []) (g .0 ∷ g .1 .0 ∷ g .1 .1 .0 ∷ [])
 fits c = subst (Held (8 ∷ 8 ∷ 8 ∷ [])) (told c) (policy-read-held _ _ _ _ _ _ (c .before .before .before .before .before .before .before .read-policy .ensures))
+
+small : (c : tie.After-known-told) → let g = c .before .read .given .0 in (g .0 < 2 ^ 8) × (g .1 .0 < 2 ^ 8) × (g .1 .1 .0 < 2 ^ 8)
+small c = (fit-first (fits c), fit-first (fit-rest (fits c)), fit-first (fit-rest (fit-rest (fits c))))
 
 read-policy-requires : tie.Need-read-policy-requires
 read-policy-requires c κs = search needs
@@ -27,25 +31,27 @@ enum-known-read : tie.Need-enum-known-read
 enum-known-read c = search needs
 
 mul-result : tie.Need-mul-result
-mul-result c = omega (arith, fit-first (fits c))
+mul-result c = omega (arith, small c)
 
 mul-result-2 : tie.Need-mul-result-2
-mul-result-2 c = omega (arith, fit-first (fit-rest (fits c)))
+mul-result-2 c = omega (arith, small c)
 
 add-result : tie.Need-add-result
-add-result c = omega (arith, fit-first (fits c), fit-first (fit-rest (fits c)))
+add-result c = omega (arith, small c)
 
 mul-result-3 : tie.Need-mul-result-3
-mul-result-3 c = omega (arith, fit-first (fit-rest (fit-rest (fits c))))
+mul-result-3 c = omega (arith, small c)
 
 add-result-2 : tie.Need-add-result-2
-add-result-2 c = omega (arith, fit-first (fits c), fit-first (fit-rest (fits c)), fit-first (fit-rest (fit-rest (fits c))))
+add-result-2 c = omega (arith, small c)
 
 enum-known-read-2 : tie.Need-enum-known-read-2
 enum-known-read-2 c = search needs
 
 refusal-word-requires : tie.Need-refusal-word-requires
-refusal-word-requires c κs = subst (Held (8 ∷ 8 ∷ 8 ∷ [])) (ap readPolicyTold (c .before .read2 .given .1)) (policy-read-held _ _ _ _ _ _ (c .before .before .before .before .before .before .before .read-policy .ensures))
+refusal-word-requires c κs =
+    let refused = ap readPolicyTold (c .before .read2 .given .1) in
+    subst (Held (8 ∷ 8 ∷ 8 ∷ [])) refused (policy-read-held _ _ _ _ _ _ (c .before .before .before .before .before .before .before .read-policy .ensures))
 
 same-length : tie.Need-same-length
 same-length c = search needs
@@ -70,7 +76,10 @@ same-length-4 c = search needs
 
 returns-2 : tie.Need-returns-2
 unfolding word fields
-returns-2 c = (_, c .refusal-word .ensures ∙ ap (word (8 ∷ 8 ∷ 8 ∷ [])) (sym (ap readPolicyTold (c .before .before .read2 .given .1))), c .before .before .before .before .before .before .before .before .read-policy .ensures)
+returns-2 c =
+    let refused = ap readPolicyTold (c .before .before .read2 .given .1) in
+    let e = c .before .before .before .before .before .before .before .before in
+    (_, c .refusal-word .ensures ∙ ap (word (8 ∷ 8 ∷ 8 ∷ [])) (sym refused), e .read-policy .ensures)
 
 pub soroluzko-read-policy-spec : {M : Type 1} → statement M
 soroluzko-read-policy-spec =

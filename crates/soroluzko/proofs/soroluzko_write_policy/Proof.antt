@@ -32,7 +32,9 @@ enum-known-wrote-2 : tie.Need-enum-known-wrote-2
 enum-known-wrote-2 c = search needs
 
 refusal-word-requires : tie.Need-refusal-word-requires
-refusal-word-requires c κs = subst (Held (24 ∷ [])) (ap wroteTold (c .before .wrote2 .given .1)) (policy-written-held _ _ _ _ _ _ (c .before .before .before .before .before .write-policy .ensures))
+refusal-word-requires c κs =
+    let refused = ap wroteTold (c .before .wrote2 .given .1) in
+    subst (Held (24 ∷ [])) refused (policy-written-held _ _ _ _ _ _ (c .before .before .before .before .before .write-policy .ensures))
 
 same-length : tie.Need-same-length
 same-length c = search needs
@@ -49,7 +51,9 @@ same-length-2 c = search needs
 
 returns-2 : tie.Need-returns-2
 unfolding word fields
-returns-2 c = (_, c .refusal-word .ensures ∙ ap (word (24 ∷ [])) (sym (ap wroteTold (c .before .before .wrote2 .given .1))), c .before .before .before .before .before .before .write-policy .ensures)
+returns-2 c =
+    let refused = ap wroteTold (c .before .before .wrote2 .given .1) in
+    (_, c .refusal-word .ensures ∙ ap (word (24 ∷ [])) (sym refused), c .before .before .before .before .before .before .write-policy .ensures)
 
 pub soroluzko-write-policy-spec : {M : Type 1} → statement M
 soroluzko-write-policy-spec =

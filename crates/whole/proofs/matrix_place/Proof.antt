@@ -12,13 +12,19 @@ use borrow.Author.Needs.{needs}
 use Rattle.whole.proofs.matrix_place.Statement.{statement}
 use Rattle.whole.proofs.matrix_place.Tie as tie
 
+abbrev sized : tie.After-digit-at → tie.After-read-sizes
+sized c = c .before .before .before .before .before .before
+
 -- the sizes, at the numbers that were read
-sizes : (c : tie.After-digit-at) → Sizes (c .before .before .before .before .before .before .before .before .before .args .file .now) (c .before .before .before .before .before .before .read-sizes .result) MX (c .before .number-at .result) (c .digit-at .result)
+sizes : (c : tie.After-digit-at)
+    → let e = sized c in
+    Sizes (e .before .before .before .args .file .now) (e .read-sizes .result) MX (c .before .number-at .result) (c .digit-at .result)
 sizes c =
-    let s = c .before .before .before .before .before .before .before .before .before .args .file .now in
-    let r = c .before .before .before .before .before .before .read-sizes .result in
+    let e = sized c in
+    let s = e .before .before .before .args .file .now in
+    let r = e .read-sizes .result in
     subst (λ (k : ℕ). Sizes s r MX (c .before .number-at .result) k) (sym (c .digit-at .ensures .0))
-    (subst (λ (n : ℕ). Sizes s r MX n (digitAt s 4)) (sym (c .before .number-at .ensures .0)) (c .before .before .before .before .before .before .read-sizes .ensures))
+    (subst (λ (n : ℕ). Sizes s r MX n (digitAt s 4)) (sym (c .before .number-at .ensures .0)) (e .read-sizes .ensures))
 
 limits : (c : tie.After-digit-at) → Short (c .before .number-at .result) (c .digit-at .result)
 limits c = let s = sizes c in short (s .entities (omega arith)) (s .rights (omega arith))
@@ -74,7 +80,8 @@ read-records-requires c κs =
 returns-3 : tie.Need-returns-3
 returns-3 c =
     let w = c .before .before .before in
-    matrix-filled _ _ _ _ (sizes w) (omega arith) _ (w .before .before .before .read-text .ensures) (omega arith) _ (c .before .read-records .ensures) (omega arith)
+    let p = w .before .before .before .read-text .ensures in
+    matrix-filled _ _ _ _ (sizes w) (omega arith) _ p (omega arith) _ (c .before .read-records .ensures) (omega arith)
 
 read-close-requires : tie.Need-read-close-requires
 read-close-requires c κs = omega (arith, piece-inside (c .before .read-records .ensures))

@@ -13,7 +13,9 @@ use Rattle.whole.proofs.policy_place.Tie as tie
 
 -- the sizes, at the numbers that were read
 sizes : (c : tie.After-number-at2)
-    → PolicySizes (c .before .before .before .before .before .before .args .file .now) (c .before .before .before .before .read-head .result) (c .before .before .number-at .result) (c .before .digit-at .result) (c .number-at2 .result)
+    → let e = c .before .before .before .before in
+    let n = c .before .before .number-at .result in
+    PolicySizes (e .before .before .args .file .now) (e .read-head .result) n (c .before .digit-at .result) (c .number-at2 .result)
 sizes c =
     let s = c .before .before .before .before .before .before .args .file .now in
     let r = c .before .before .before .before .read-head .result in

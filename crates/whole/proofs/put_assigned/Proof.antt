@@ -30,9 +30,11 @@ same-length c = search needs
 
 returns : tie.Need-returns
 returns c =
-    let a = c .before .before .before .before .before .before .before .before .before .before .before .before .before .before .before .before .args in
-    let e₁ = c .before .before .before .before .before .before .before .before .before .before .before .put .ensures in
-    assigned-put (a .assignment .now) (a .file .now) _ _ _ e₁ (c .before .before .before .before .before .before .before .put-numbers .ensures) (c .before .before .put2 .ensures)
+    let e₃ = c .before .before in
+    let e₂ = e₃ .before .before .before .before .before in
+    let e₁ = e₂ .before .before .before .before in
+    let a = e₁ .before .before .before .before .before .args in
+    assigned-put (a .assignment .now) (a .file .now) _ _ _ (e₁ .put .ensures) (e₂ .put-numbers .ensures) (e₃ .put2 .ensures)
 
 pub put-assigned-spec : {M : Type 1} → statement M
 put-assigned-spec =

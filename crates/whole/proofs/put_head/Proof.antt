@@ -24,9 +24,11 @@ same-length c = search needs
 
 returns : tie.Need-returns
 returns c =
-    let a = c .before .before .before .before .before .before .before .before .before .before .before .before .before .before .before .args in
-    let e₁ = c .before .before .before .before .before .before .before .before .before .before .before .put-sizes .ensures in
-    head-put (a .n) (a .k) (a .d) (a .file .now) _ _ _ e₁ (c .before .before .before .before .before .before .before .put-number .ensures) (c .before .before .put .ensures)
+    let e₃ = c .before .before in
+    let e₂ = e₃ .before .before .before .before .before in
+    let e₁ = e₂ .before .before .before .before in
+    let a = e₁ .before .before .before .before .args in
+    head-put (a .n) (a .k) (a .d) (a .file .now) _ _ _ (e₁ .put-sizes .ensures) (e₂ .put-number .ensures) (e₃ .put .ensures)
 
 pub put-head-spec : {M : Type 1} → statement M
 put-head-spec =

@@ -33,7 +33,10 @@ slice-aggregate-put-sizes : tie.Need-slice-aggregate-put-sizes
 slice-aggregate-put-sizes c = search needs
 
 put-sizes-requires : tie.Need-put-sizes-requires
-put-sizes-requires c κs = let w = c .before .before in let l = w .before .before .pre .0 .laid in (omega arith, omega (arith, l .entities), omega (arith, l .rights), omega (arith, room w))
+put-sizes-requires c κs =
+    let w = c .before .before in
+    let l = w .before .before .pre .0 .laid in
+    (omega arith, omega (arith, l .entities), omega (arith, l .rights), omega (arith, room w))
 
 slice-aggregate-put : tie.Need-slice-aggregate-put
 slice-aggregate-put c = search needs
@@ -50,11 +53,15 @@ mul-put-records c = omega (arith, limits (c .before .before .before .before .bef
 put-records-requires : tie.Need-put-records-requires
 put-records-requires c κs =
     let w = c .before .before .before .before .before .before .before .before .before .before .before .before in
-    let l = w .before .before .pre .0 .laid in
-    (omega arith, omega (arith, l .entities), omega (arith, room w), omega (arith, l .size, mul-assoc (w .before .before .args .n) (w .before .before .args .k) (w .before .before .args .n)))
+    let e = w .before .before in
+    let l = e .pre .0 .laid in
+    let cells = mul-assoc (e .args .n) (e .args .k) (e .args .n) in
+    (omega arith, omega (arith, l .entities), omega (arith, room w), omega (arith, l .size, cells))
 
 put-close-requires : tie.Need-put-close-requires
-put-close-requires c κs = omega (arith, room (c .before .before .before .before .before .before .before .before .before .before .before .before .before .before .before .before))
+put-close-requires c κs =
+    let w = c .before .before .before .before .before .before .before .before .before in
+    omega (arith, room (w .before .before .before .before .before .before .before))
 
 add-result : tie.Need-add-result
 add-result c = search needs
@@ -64,13 +71,15 @@ same-length c = search needs
 
 returns : tie.Need-returns
 returns c =
-    let a = c .before .before .before .before .before .before .before .before .before .before .before .before .before .before .before .before .before .before .before .before .before .args in
-    let e₁ = c .before .before .before .before .before .before .before .before .before .before .before .before .before .before .before .before .put-sizes .ensures in
-    let e₂ = c .before .before .before .before .before .before .before .before .before .before .before .put .ensures in
-    let e₃ = c .before .before .before .before .before .before .put-records .ensures in
-    let e₄ = c .before .before .put-close .ensures in (
+    let e₄ = c .before .before in
+    let e₃ = e₄ .before .before .before .before in
+    let e₂ = e₃ .before .before .before .before .before in
+    let e₁ = e₂ .before .before .before .before .before in
+    let s = e₁ .before .before .before .before .before in
+    let a = s .args in (
       sym (matrix-length (a .n) (a .k) (a .matrix .now) ∙ omega arith),
-      matrix-put (a .n) (a .k) (a .matrix .now) (a .file .now) _ _ _ _ (c .before .before .before .before .before .before .before .before .before .before .before .before .before .before .before .before .before .before .before .before .before .pre .1) e₁ e₂ e₃ e₄,
+      matrix-put (a .n) (a .k) (a .matrix .now) (a .file .now) _ _ _ _ (s .pre .1) (e₁ .put-sizes .ensures) (e₂ .put .ensures)
+          (e₃ .put-records .ensures) (e₄ .put-close .ensures),
     )
 
 pub put-matrix-spec : {M : Type 1} → statement M

@@ -1,4 +1,5 @@
--- `whole::put_policy` meets its contract: the two first lines, the records and the last line stand one behind the other. Assumes nothing.
+-- `whole::put_policy` meets its contract: the two first lines, the records and the last line stand one behind the other.
+-- Assumes nothing.
 use mathlib.Core.Path.{_≡_, sym, _∙_}
 use Prim.Native.Nat.{ℕ, _+_, _*_, _≤_, _<_}
 use native.Mathlib.Nat.{mul-assoc}
@@ -16,7 +17,9 @@ limits c = let f = c .before .before .before .pre .0 in short (f .domains) (f .r
 
 -- the room that there is
 room : (c : tie.After-slice-known) → let a = c .before .before .before .args in 14 + a .n * 2 + a .d * (a .k * a .d + 5) ≤ length (a .file .now)
-room c = let a = c .before .before .before .args in omega (arith, policy-length (a .n) (a .k) (policy (a .d) (a .assignment .now) (a .table .now)), c .before .before .before .pre .1)
+room c =
+    let a = c .before .before .before .args in
+    omega (arith, policy-length (a .n) (a .k) (policy (a .d) (a .assignment .now) (a .table .now)), c .before .before .before .pre .1)
 
 -- a domain number has two digits
 members : (c : tie.After-slice-known)
@@ -43,10 +46,15 @@ add-end-2 : tie.Need-add-end-2
 add-end-2 c = search needs
 
 put-head-requires : tie.Need-put-head-requires
-put-head-requires c κs = let w = c .before in let f = w .before .before .before .pre .0 in (omega (arith, f .entities), omega (arith, f .rights), omega (arith, f .domains), omega (arith, room w))
+put-head-requires c κs =
+    let w = c .before in
+    let f = w .before .before .before .pre .0 in
+    (omega (arith, f .entities), omega (arith, f .rights), omega (arith, f .domains), omega (arith, room w))
 
 put-assigned-requires : tie.Need-put-assigned-requires
-put-assigned-requires c κs = let w = c .before .before .before .before .before in (omega (arith, room w, w .before .before .before .pre .0 .valid .entities), members w)
+put-assigned-requires c κs =
+    let w = c .before .before .before .before .before in
+    (omega (arith, room w, w .before .before .before .pre .0 .valid .entities), members w)
 
 slice-aggregate-put-records : tie.Need-slice-aggregate-put-records
 slice-aggregate-put-records c = search needs
@@ -62,7 +70,9 @@ put-records-requires c κs =
     (omega arith, omega (arith, f .domains), omega (arith, room w), omega (arith, f .valid .size, mul-assoc (a .d) (a .k) (a .d)))
 
 put-close-requires : tie.Need-put-close-requires
-put-close-requires c κs = omega (arith, room (c .before .before .before .before .before .before .before .before .before .before .before .before .before .before))
+put-close-requires c κs =
+    let w = c .before .before .before .before .before .before .before in
+    omega (arith, room (w .before .before .before .before .before .before .before))
 
 add-result : tie.Need-add-result
 add-result c = search needs
@@ -72,14 +82,15 @@ same-length c = search needs
 
 returns : tie.Need-returns
 returns c =
-    let a = c .before .before .before .before .before .before .before .before .before .before .before .before .before .before .before .before .before .before .before .before .args in
-    let q = c .before .before .before .before .before .before .before .before .before .before .before .before .before .before .before .before .before .before .before .before .pre in
-    let e₁ = c .before .before .before .before .before .before .before .before .before .before .before .before .before .before .before .put-head .ensures in
-    let e₂ = c .before .before .before .before .before .before .before .before .before .before .before .put-assigned .ensures in
-    let e₃ = c .before .before .before .before .before .before .put-records .ensures in
-    let e₄ = c .before .before .put-close .ensures in (
+    let e₄ = c .before .before in
+    let e₃ = e₄ .before .before .before .before in
+    let e₂ = e₃ .before .before .before .before .before in
+    let e₁ = e₂ .before .before .before .before in
+    let s = e₁ .before .before .before .before .before in
+    let a = s .args in (
       sym (policy-length (a .n) (a .k) (policy (a .d) (a .assignment .now) (a .table .now)) ∙ omega arith),
-      policy-put (a .n) (a .k) (a .d) (a .assignment .now) (a .table .now) (a .file .now) _ _ _ _ (q .0 .valid .entities) (q .1) e₁ e₂ e₃ e₄,
+      policy-put (a .n) (a .k) (a .d) (a .assignment .now) (a .table .now) (a .file .now) _ _ _ _ (s .pre .0 .valid .entities) (s .pre .1)
+          (e₁ .put-head .ensures) (e₂ .put-assigned .ensures) (e₃ .put-records .ensures) (e₄ .put-close .ensures),
     )
 
 pub put-policy-spec : {M : Type 1} → statement M

@@ -34,7 +34,10 @@ read-text-requires-2 : tie.Need-read-text-requires-2
 read-text-requires-2 c κs = omega (arith, piece-inside (c .before .before .read-numbers .ensures))
 
 returns-3 : tie.Need-returns-3
-returns-3 c = assigned-whole _ _ _ _ (c .before .before .before .before .before .read-text .ensures) (omega arith) _ (c .before .before .before .read-numbers .ensures) _ (omega arith) (c .read-text2 .ensures)
+returns-3 c =
+    let e = c .before .before .before in
+    let p = e .before .before .read-text .ensures in
+    assigned-whole _ _ _ _ p (omega arith) _ (e .read-numbers .ensures) _ (omega arith) (c .read-text2 .ensures)
 
 pub read-assigned-spec : {M : Type 1} → statement M
 read-assigned-spec =

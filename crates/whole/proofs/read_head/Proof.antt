@@ -49,7 +49,10 @@ read-text-requires : tie.Need-read-text-requires
 read-text-requires c κs = omega (arith, value-inside (domains (c .before .before)))
 
 returns-3 : tie.Need-returns-3
-returns-3 c = head-whole _ _ _ _ (c .before .before .before .before .before .before .before .read-sizes .ensures) (omega arith) _ _ (domains (c .before .before .before)) _ (omega arith) (c .read-text .ensures)
+returns-3 c =
+    let e = c .before .before .before in
+    let z = e .before .before .before .before .read-sizes .ensures in
+    head-whole _ _ _ _ z (omega arith) _ _ (domains e) _ (omega arith) (c .read-text .ensures)
 
 pub read-head-spec : {M : Type 1} → statement M
 read-head-spec =

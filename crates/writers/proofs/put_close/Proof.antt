@@ -27,8 +27,10 @@ same-length c = search needs
 
 returns : tie.Need-returns
 returns c =
-    let a = c .before .before .before .before .before .before .before .before .before .before .before .args in
-    put-next ZZ (10 ∷ []) (a .out .now) (a .at) _ (c .before .before .before .before .before .before .before .put .ensures) refl (c .before .before .put2 .ensures)
+    let e₂ = c .before .before in
+    let e₁ = e₂ .before .before .before .before .before in
+    let a = e₁ .before .before .before .before .args in
+    put-next ZZ (10 ∷ []) (a .out .now) (a .at) _ (e₁ .put .ensures) refl (e₂ .put2 .ensures)
 
 pub put-close-spec : {M : Type 1} → statement M
 put-close-spec =

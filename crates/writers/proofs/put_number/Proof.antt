@@ -1,6 +1,8 @@
 -- `writers::put_number` meets its contract: its two digits stand one behind the other. Assumes nothing.
-use mathlib.Core.Path.{_∙_}
-use native.Mathlib.Numerals.{add-one}
+use mathlib.Core.Path.{refl}
+use Prim.Native.Nat.{_+_, _/_, _%_}
+use Rattle.layout.specs.Text.{one}
+use Rattle.layout.proofs.Puts.{put-next}
 use borrow.Author.Needs.{needs}
 use Rattle.writers.proofs.put_number.Statement.{statement}
 use Rattle.writers.proofs.put_number.Tie as tie
@@ -19,9 +21,10 @@ same-length c = search needs
 
 returns : tie.Need-returns
 returns c =
-    let unit = c .before .before .put-digit2 .ensures in
-    let ten = c .before .before .before .before .before .before .put-digit .ensures in
-    unit ∙ rw (ten, add-one)
+    let e₂ = c .before .before in
+    let e₁ = e₂ .before .before .before .before in
+    let a = e₁ .before .before .before .args in
+    put-next (one (a .x / 10)) (one (a .x % 10)) (a .out .now) (a .at) (a .at + 1) (e₁ .put-digit .ensures) refl (e₂ .put-digit2 .ensures)
 
 pub put-number-spec : {M : Type 1} → statement M
 put-number-spec =
