@@ -25,7 +25,8 @@ use Rattle.model.proofs.Alike.{alike-tests}
 use Rattle.model.proofs.Rules.{Whole, whole-fine, room-fine}
 use Rattle.build.specs.declared.Built.{Built}
 use Rattle.build.specs.declared.Built.the-variants.{Refused}
-use Rattle.build.specs.Build.{builtFrom, tableSize, buildRules, buildTold, builtTold, Builds, nth, Members}
+use Rattle.classes.specs.Members.{nth, Members}
+use Rattle.build.specs.Build.{builtFrom, tableSize, buildRules, buildTold, builtTold, Builds}
 
 filled-long : (i : ℕ) (f : ℕ → ℕ) (l : List ℕ) → i ≤ length (filled i f l)
 filled-long i f l = rw (length-append, length-tab, length-drop) (omega arith)

@@ -1,8 +1,8 @@
 -- What the build answers, and what it writes (01, "The calls" and "Numbers of refusal"). Assumes nothing.
 use mathlib.Core.Path.{_≡_}
 use mathlib.Core.List.{List, [], _∷_, _++_}
-use Prim.Native.Nat.{ℕ, _*_, _≤_, _<_}
-use lib.ListN.{length, getD}
+use Prim.Native.Nat.{ℕ, _*_}
+use lib.ListN.{length}
 use Rattle.model.specs.Matrix.{cell}
 use Rattle.model.specs.Policy.{Policy}
 use Rattle.model.specs.Built.{built}
@@ -44,15 +44,3 @@ pub record Builds (n k : ℕ) (m s t : List ℕ) (r : Built) (s′ t′ : List �
   pub told : builtTold r ≡ buildTold n k m (length s) (length t)
   pub assignment : s′ ≡ assignmentLeft n k m s t
   pub table : t′ ≡ tableLeft n k m s t
-
--- ---- for the functions below the call
-
--- the number that stands at i
-abbrev pub nth : List ℕ → ℕ → ℕ
-nth l i = getD l i 0
-
--- the first d of these are entities
-pub record Members (n d : ℕ) (low : List ℕ) : Type 0 where
-  pub few : d ≤ n
-  pub long : d ≤ length low
-  pub each : (p : ℕ) → p < d → nth low p < n

@@ -8,7 +8,7 @@ use Rattle.model.specs.declared.Checked.the-variants.{Fine}
 use Rattle.model.specs.Refusal.{checked}
 use Rattle.model.specs.Rules.{wholeRules, roomRules}
 use Rattle.model.proofs.Rules.{laid}
-use Rattle.build.specs.Build.{Members}
+use Rattle.classes.specs.Members.{Members}
 use Rattle.build.proofs.Exits.{early-bad, whole, room, numbers-long, members-in, wrote}
 use borrow.Author.Needs.{needs}
 use Rattle.build.proofs.build.Tie as tie

@@ -1,4 +1,4 @@
--- `build::put_table` meets its contract. The invariant of each loop: `to` is the place of the cell that is next, and the table is filled
+-- `tables::put_table` meets its contract. The invariant of each loop: `to` is the place of the cell that is next, and the table is filled
 -- up to there (`Grown`, since a loop inside another begins with a table that is filled in part). Assumes nothing.
 use mathlib.Core.Path.{_≡_, refl, sym, ap, _∙_}
 use Prim.Native.Nat.{ℕ, _-_, _*_, _≤_, _<_}
@@ -7,10 +7,10 @@ use lib.ListN.{length}
 use Rattle.model.specs.Matrix.{cellAt}
 use Rattle.model.specs.Built.{tableOf}
 use Rattle.model.proofs.Loops.{filled, Grown, grown-none, grown-on, grown-next, grown-whole}
-use Rattle.build.proofs.Table.{tableCell, table-cell, At, at}
+use Rattle.tables.proofs.Table.{tableCell, table-cell, At, at}
 use borrow.Author.Needs.{needs}
-use Rattle.build.proofs.put_table.Tie as tie
-use Rattle.build.proofs.put_table.Statement.{statement}
+use Rattle.tables.proofs.put_table.Tie as tie
+use Rattle.tables.proofs.put_table.Statement.{statement}
 
 abbrev Inv-loop3 : tie.InvT-loop3
 Inv-loop3 n k d m members table₀ to₀ p a from q₀ table to q = (q ≤ d) × (to ≡ cellAt k d p a q) × Grown (tableCell n k d m members) table₀ to₀ table to

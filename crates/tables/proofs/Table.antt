@@ -7,7 +7,7 @@ use native.Mathlib.Omega.{arith}
 use lib.ListN.{length, getD}
 use Rattle.model.specs.Matrix.{cellAt, cell, Laid}
 use Rattle.model.proofs.Places.{parts, steps, small}
-use Rattle.build.specs.Build.{Members}
+use Rattle.classes.specs.Members.{Members}
 
 module _ (n k d : ℕ) (m low : List ℕ) where
   -- what stands at i of the table

@@ -1,13 +1,13 @@
--- `build::put_assignment` meets its contract. The invariant: the first i bytes are written. Assumes nothing.
+-- `tables::put_assignment` meets its contract. The invariant: the first i bytes are written. Assumes nothing.
 use mathlib.Core.Path.{_≡_, ap, _∙_}
 use Prim.Native.Nat.{ℕ, _-_, _≤_}
 use native.Mathlib.Omega.{arith}
 use lib.ListN.{length}
 use Rattle.model.proofs.Loops.{filled, filled-none, filled-length, filled-next}
-use Rattle.build.specs.Build.{nth}
+use Rattle.classes.specs.Members.{nth}
 use borrow.Author.Needs.{needs}
-use Rattle.build.proofs.put_assignment.Statement.{statement}
-use Rattle.build.proofs.put_assignment.Tie as tie
+use Rattle.tables.proofs.put_assignment.Statement.{statement}
+use Rattle.tables.proofs.put_assignment.Tie as tie
 
 abbrev Inv-loop : tie.InvT-loop
 Inv-loop n domains assignment₀ i₀ assignment i = (i ≤ n) × (assignment ≡ filled i (nth domains) assignment₀)

@@ -1,4 +1,4 @@
--- `build::classify` meets its contract. The invariant (`Numbered`): the first u entities have their numbers, and the classes met so far their
+-- `classes::classify` meets its contract. The invariant (`Numbered`): the first u entities have their numbers, and the classes met so far their
 -- smallest members, so that the search among these finds the number of the next one's class. Assumes nothing.
 use mathlib.Core.Path.{_≡_}
 use mathlib.Core.Logic.{⊎-elim}
@@ -14,10 +14,10 @@ use Rattle.model.proofs.Classes.{Tests}
 use Rattle.model.proofs.Alike.{alike-tests}
 use Rattle.model.proofs.Numbering.{Numbered, numbered-start, numbered-few, numbered-long, numbered-end, numbered-old, numbered-new}
 use Rattle.model.proofs.Numbering.{class-under, member-stays, search-class}
-use Rattle.build.specs.Build.{Members}
+use Rattle.classes.specs.Members.{Members}
 use borrow.Author.Needs.{needs}
-use Rattle.build.proofs.classify.Statement.{statement}
-use Rattle.build.proofs.classify.Tie as tie
+use Rattle.classes.proofs.classify.Statement.{statement}
+use Rattle.classes.proofs.classify.Tie as tie
 
 abbrev like : ℕ → ℕ → List ℕ → ℕ → ℕ → Bool
 like n k m = alike? n k (cell k n m)

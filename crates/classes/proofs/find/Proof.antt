@@ -1,4 +1,4 @@
--- `build::find` meets its contract. The invariant: none of the first p members is alike to u. Assumes nothing.
+-- `classes::find` meets its contract. The invariant: none of the first p members is alike to u. Assumes nothing.
 use mathlib.Core.Path.{_≡_, sym, ap, _∙_}
 use mathlib.Core.Bool.{Bool}
 use mathlib.Core.List.{List}
@@ -10,8 +10,8 @@ use Rattle.model.specs.Matrix.{cell}
 use Rattle.model.specs.Alike.{alike?}
 use Rattle.model.proofs.Loops.{first-zero, first-next, first-here}
 use borrow.Author.Needs.{needs}
-use Rattle.build.proofs.find.Tie as tie
-use Rattle.build.proofs.find.Statement.{statement}
+use Rattle.classes.proofs.find.Tie as tie
+use Rattle.classes.proofs.find.Statement.{statement}
 
 -- u is alike to member c
 abbrev likes : ℕ → ℕ → ℕ → List ℕ → List ℕ → ℕ → Bool
