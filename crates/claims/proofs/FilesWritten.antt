@@ -29,7 +29,7 @@ use Rattle.claims.proofs.Files.{first-bytes, later-bytes, held-over, he
 
 -- ---- what is told determines the answer
 
-wrote-apart : (r q : Wrote) → wroteTold r ≡ wroteTold q → r ≡ q
+pub wrote-apart : (r q : Wrote) → wroteTold r ≡ wroteTold q → r ≡ q
 wrote-apart (Length a) (Length b) e = let q : a ≡ b = cc in ap Length q
 wrote-apart (Length a) (WriteRefused s) e = absurd (values-refused _ s e)
 wrote-apart (WriteRefused r) (Length b) e = absurd (values-refused _ r (sym e))
@@ -52,7 +52,7 @@ module _ (rules : List Rule) (new x x′ : List ℕ) where
   written-length r s fine e w = wrote-apart r (Length (length s))
       (w .told ∙ sym (tell-fine (checked rules) fine (length new ∷ [])) ∙ ap (λ (z : List ℕ). values (length z ∷ [])) (sym e))
 
-  written-one : (x″ : List ℕ) (r q : Wrote) → Written rules new x (wroteTold r) x′ → Written rules new x (wroteTold q) x″ → (r ≡ q) × (x′ ≡ x″)
+  pub written-one : (x″ : List ℕ) (r q : Wrote) → Written rules new x (wroteTold r) x′ → Written rules new x (wroteTold q) x″ → (r ≡ q) × (x′ ≡ x″)
   written-one x″ r q w z = (wrote-apart r q (w .told ∙ sym (z .told)), w .left ∙ sym (z .left))
 
 pub file-written : FileWritten

@@ -5,5 +5,6 @@ pub mod Rows
 pub mod Files
 pub mod Contents
 pub mod Cuts
+pub mod Faults
 pub mod Stops
 pub mod Puts

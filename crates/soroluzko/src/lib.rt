@@ -1,4 +1,5 @@
-// The boundary to C: each call over plain numbers and byte slices, answered by one word (include/soroluzko.h).
+// A whole input to a whole output, for the program; and the boundary to C: each call over plain numbers and byte slices, answered by one
+// word (include/soroluzko.h).
 use alike::Compared;
 use ask::Asked;
 use build::Built;
@@ -6,6 +7,7 @@ use files::ReadMatrix;
 use files::ReadPolicy;
 use files::Wrote;
 use judge::Judged;
+use model::Checked;
 use model::Refusal;
 ghost use mathlib.Core.Path.{_≡_};
 ghost use mathlib.Core.List.{[]};
@@ -15,9 +17,24 @@ ghost use Rattle.model.specs.Refusal.{refused};
 ghost use Rattle.layout.specs.Text.{matrixText, policyText};
 ghost use Rattle.files.specs.Write.{matrixWriteRules, policyWriteRules};
 ghost use Rattle.build.specs.Build.{assignmentLeft, tableLeft};
+ghost use Rattle.woven.specs.Weave.{Weaves};
 ghost use Rattle.words.specs.Word.{word, Carried};
 ghost use Rattle.words.specs.Calls.{askWord, alikeWord, buildWord, judgeWord};
 ghost use Rattle.words.specs.Files.{MatrixReadWord, PolicyReadWord, WrittenWord};
+ghost use Rattle.words.specs.Weave.{WeaveWord};
+
+// The length of the answer to an input; the first bytes of `output` become the answer, later bytes stay: the file of the built policy where
+// the input is the file of a full matrix, and else the line NO with the number and the place. Refused, before anything is written: 11 where
+// `output` has less than 33,230 bytes, which are enough for every answer.
+pub fn weave_bytes(input: &[u8], output: &mut [u8]) -> Wrote
+    ensures { λ r. ⌜ Weaves (now (input .entry)) (now (output .entry)) r (now (output .exit)) ⌝ }
+{
+    let room = scan::room_fits(11, output.len(), 33230);
+    if let Checked::Bad(r) = room {
+        return Wrote::Refused(r);
+    }
+    Wrote::Length(loom::weave(input, output))
+}
 
 // The word of a refusal.
 fn refusal_word(r: Refusal) -> u64
@@ -161,6 +178,18 @@ pub extern "C" fn soroluzko_write_policy(
         ⌝ }
 {
     let wrote = files::write_policy(n, k, d, assignment, table, file);
+    match wrote {
+        Wrote::Length(size) => 256 * size as u64,
+        Wrote::Refused(r) => refusal_word(r),
+    }
+}
+
+// The weave, for C: `weave_bytes` with its answer as a word.
+#[no_mangle]
+pub extern "C" fn soroluzko_weave(input: &[u8], output: &mut [u8]) -> u64
+    ensures { λ w. ⌜ WeaveWord (now (input .entry)) (now (output .entry)) w (now (output .exit)) ⌝ }
+{
+    let wrote = weave_bytes(input, output);
     match wrote {
         Wrote::Length(size) => 256 * size as u64,
         Wrote::Refused(r) => refusal_word(r),

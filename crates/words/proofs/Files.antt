@@ -4,8 +4,7 @@ use mathlib.Core.Path.{_≡_, sym, ap, _∙_, subst}
 use mathlib.Core.List.{List, [], _∷_, _++_}
 use Prim.Native.Nat.{ℕ, _+_, _*_, _^_, _≤_, _<_}
 use native.Mathlib.Omega.{arith}
-use lib.ListN.{length, length-append, take}
-use lib.Seq.{length-take-le}
+use lib.ListN.{length}
 use Rattle.model.specs.Policy.{Policy}
 use Rattle.model.specs.Refusal.{checked, refusal, Told, refused}
 use Rattle.model.specs.Rules.{sizeRules, matrixRules, assignmentRules, tableRules, roomRules}
@@ -13,8 +12,9 @@ use Rattle.model.proofs.Groups.{Gives, gives-group, groups-fine}
 use Rattle.model.proofs.Places.{small}
 use Rattle.model.proofs.Rules.{Sized, sizes-fine}
 use Rattle.layout.specs.Text.{matrixText, policyText}
-use Rattle.layout.specs.Files.{MatrixFormed, PolicyFormed, Malformed}
+use Rattle.layout.specs.Files.{MatrixFormed, PolicyFormed}
 use Rattle.layout.proofs.Contents.{matrix-length, policy-length, short, matrix-short, policy-short}
+use Rattle.layout.proofs.Faults.{place-short}
 use Rattle.files.specs.Read.{MatrixRead, PolicyRead, formed, malformed}
 use Rattle.files.specs.Write.{matrixWriteRules, policyWriteRules, Written}
 use Rattle.words.specs.Word.{Carried}
@@ -22,13 +22,6 @@ use Rattle.words.specs.Files.{ReadMatrixKept, ReadPolicyKept, WriteMatri
 use Rattle.words.proofs.Word.{none, more, Held, word-kept, word-low}
 use Rattle.words.proofs.Carried.{carried, sizes-carried, matrix-carried, assignment-carried, table-carried, room-carried}
 use Rattle.words.proofs.Calls.{told-held}
-
--- a place is inside some well-formed file
-place-short : (W : List ℕ → Type 0) (s : List ℕ) (p limit : ℕ) → ((l : List ℕ) → W l → length l ≤ limit) → Malformed W s p → p ≤ limit
-place-short W s p limit f m =
-    let q = m .place in
-    let size : length (take p s) ≡ p = length-take-le p s (q .within) in
-    omega (arith, f (take p s ++ q .common .0) (q .common .1), length-append (take p s) (q .common .0))
 
 malformed-held : (ws : List ℕ) (p : ℕ) → p ≤ 33230 → Held ws (refused (refusal 12 p))
 malformed-held ws p h = carried 12 p (omega arith) (omega arith) (omega arith)
@@ -43,7 +36,7 @@ matrix-read-held s x x′ t (MatrixRead.formed n k m f e _) =
     (λ _. more (omega (arith, l .entities)) (more (omega (arith, l .rights)) none)))
 matrix-read-held s x x′ t (MatrixRead.malformed p m e _) =
     subst (Held (8 ∷ 8 ∷ [])) (sym e) (malformed-held (8 ∷ 8 ∷ []) p
-    (omega (arith, place-short MatrixFormed s p 33097 (λ l f. matrix-short (f .3)) m)))
+    (omega (arith, place-short MatrixFormed 33097 (λ l f. matrix-short (f .3)) (m .place))))
 
 pub policy-read-held : (s x y x′ y′ : List ℕ) (t : Told) → PolicyRead s x y t x′ y′ → Held (8 ∷ 8 ∷ 8 ∷ []) t
 policy-read-held s x y x′ y′ t (PolicyRead.formed n k P f e _ _) =
@@ -57,7 +50,7 @@ policy-read-held s x y x′ y′ t (PolicyRead.formed n k P f e _ _) =
     (λ _. more (omega (arith, f .entities)) (more (omega (arith, f .rights)) (more (omega (arith, f .domains)) none))))
 policy-read-held s x y x′ y′ t (PolicyRead.malformed p m e _ _) =
     subst (Held (8 ∷ 8 ∷ 8 ∷ [])) (sym e) (malformed-held (8 ∷ 8 ∷ 8 ∷ []) p
-    (place-short PolicyFormed s p 33230 (λ l f. policy-short (f .3)) m))
+    (place-short PolicyFormed 33230 (λ l f. policy-short (f .3)) (m .place)))
 
 -- ---- writing
 

@@ -1,0 +1,23 @@
+-- What the weave tells has room in its word: no answer is longer than 33,230 bytes. Assumes nothing.
+use mathlib.Core.Path.{_≡_, sym, subst}
+use mathlib.Core.List.{List, [], _∷_}
+use Prim.Native.Nat.{ℕ}
+use native.Mathlib.Omega.{arith}
+use lib.ListN.{length}
+use Rattle.model.specs.Refusal.{Told}
+use Rattle.model.specs.Rules.{roomRules}
+use Rattle.files.specs.Write.{Written}
+use Rattle.woven.specs.Weave.{Woven, longest}
+use Rattle.woven.proofs.Claims.{woven-short}
+use Rattle.words.specs.Weave.{WeaveKept}
+use Rattle.words.proofs.Word.{none, more, Held, word-kept, word-low}
+use Rattle.words.proofs.Carried.{room-carried}
+use Rattle.words.proofs.Calls.{told-held}
+
+pub woven-held : (s t x x′ : List ℕ) (a : Told) → Woven s t → Written (roomRules 11 (length x) longest) t x a x′ → Held (24 ∷ []) a
+woven-held s t x x′ a w z =
+    subst (Held (24 ∷ [])) (sym (z .told)) (told-held (24 ∷ []) (roomRules 11 (length x) longest) (length t ∷ [])
+    (room-carried 11 (length x) longest (omega arith) (omega arith) (omega arith)) (λ _. more (omega (arith, woven-short w)) none))
+
+pub weave-kept : WeaveKept
+weave-kept s t x x′ a w z = let h = woven-held s t x x′ a w z in (word-kept (24 ∷ []) a h, word-low (24 ∷ []) (omega arith) a h)
