@@ -31,7 +31,8 @@
  *     bits 8-39  where nothing is refused, what the call answers
  *     the rest   0
  *
- * Of several refusals that apply the first is given, in the order that the call lists. A call that is refused has written nothing.
+ * Of several refusals that apply the first is given, in the order that the call lists. A call that is refused has written nothing. What
+ * soroluzko_weave finds wrong with its input it writes to its output, as a line, and is not refused for that.
  *
  * Pointers and lengths. Each pointer refers to as many bytes as the length after it says, at most PTRDIFF_MAX: readable ones, and
  * writable ones where the pointer is not to const. Nothing else changes them during the call, and no byte that a call may write is also
@@ -90,7 +91,7 @@ static inline size_t soroluzko_read_n(uint64_t answer) { return (size_t)(answer 
 static inline size_t soroluzko_read_k(uint64_t answer) { return (size_t)(answer >> 16 & 0xff); }
 static inline size_t soroluzko_read_d(uint64_t answer) { return (size_t)(answer >> 24 & 0xff); }
 
-/* The length of a file that was written. It has a meaning only where not soroluzko_refused. */
+/* The length of a file that was written, or of what a weave answered. It has a meaning only where not soroluzko_refused. */
 static inline size_t soroluzko_file_length(uint64_t answer) { return (size_t)(answer >> 8 & 0xffffff); }
 
 /* A policy and a request. Name the members where you fill them in (.n = 3, .k = 1, ..), so that no two numbers are exchanged. */
@@ -258,6 +259,27 @@ uint64_t soroluzko_write_policy(size_t n, size_t k, size_t d, const uint8_t *ass
 static inline uint64_t soroluzko_policy_write(const struct soroluzko_policy *p, uint8_t *file, size_t file_length) {
     return soroluzko_write_policy(p->n, p->k, p->d, p->assignment, p->assignment_length, p->table, p->table_length, file, file_length);
 }
+
+/*
+ * Weave: a whole input to a whole output, as the program weave does it.
+ *
+ * Bits 8-31 are the answer's length. The first so many bytes of output are the answer: the file of the policy that soroluzko_build builds
+ * of the matrix that soroluzko_read_matrix reads from the input; or, by the first of these that applies, a line of 10 bytes, which is NO,
+ * the number in two digits, the place in five, line feed:
+ *
+ *     12  the input is no file of a matrix (place: the number of leading bytes that it shares with some file of a matrix, at the most)
+ *      4  a cell is * (place: the lowest such cell)
+ *
+ * Such a line is an answer and no refusal of the call: the word has its length, and its first byte, N and not P, tells it from a policy.
+ * Later bytes of output stay as they were. Refused in this case alone, whatever the input is, and then all bytes of output stay as they
+ * were:
+ *
+ *     11  output_length is below 33230 (place 33230)
+ *
+ * Of the input the first 33098 bytes alone decide: one that is longer than 33097 bytes is no file, and these bytes show where. The output
+ * must not overlap the input. The call takes some 66 KB of stack.
+ */
+uint64_t soroluzko_weave(const uint8_t *input, size_t input_length, uint8_t *output, size_t output_length);
 
 #ifdef __cplusplus
 }

@@ -1,6 +1,6 @@
 /*
- * What the test of the files uses: what a file holds, and one read or one write beside plain C. The word is compared, what the header
- * takes from it, and every byte. Buffers are full of other bytes before each call, and often longer than needed.
+ * What the tests of the files and of the weave use: what a file holds, and one read or one write beside plain C. The word is compared,
+ * what the header takes from it, and every byte. Buffers are full of other bytes before each call, and often longer than needed.
  */
 #ifndef CONTENT_H
 #define CONTENT_H

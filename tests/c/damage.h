@@ -1,4 +1,4 @@
-/* Files that are no longer what they were, for the test of the files. */
+/* Files that are no longer what they were, for the tests of the files and of the weave. */
 #ifndef DAMAGE_H
 #define DAMAGE_H
 

@@ -254,3 +254,14 @@ uint64_t plain_read_policy(const uint8_t *file, size_t file_length,
     if (d) memcpy(table, cells, d * k * d);
     return (uint64_t)n << 8 | (uint64_t)k << 16 | (uint64_t)d << 24;
 }
+
+uint64_t plain_weave(const uint8_t *input, size_t input_length, uint8_t *output, size_t output_length) {
+    static uint8_t matrix[64 * 8 * 64], domains[64], cells[64 * 8 * 64];
+    if (output_length < 33230) return refusal(11, 33230);
+    uint64_t word = plain_read_matrix(input, input_length, matrix, sizeof matrix);
+    size_t n = word >> 8 & 0xff, k = word >> 16;
+    if ((word & 0xff) == 0) word = plain_build(n, k, matrix, n * k * n, domains, sizeof domains, cells, sizeof cells);
+    if ((word & 0xff) == 0) print_policy(n, k, word >> 8, domains, cells);
+    else length = sprintf(text, "NO%02u%05u\n", (unsigned)(word & 0xff), (unsigned)(word >> 8));
+    return hand_over(output, output_length);
+}

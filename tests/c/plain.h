@@ -28,4 +28,7 @@ uint64_t plain_write_matrix(size_t n, size_t k, const uint8_t *matrix, size_t ma
 uint64_t plain_write_policy(size_t n, size_t k, size_t d, const uint8_t *assignment, size_t assignment_length,
                             const uint8_t *table, size_t table_length, uint8_t *file, size_t file_length);
 
+/* by the three above: the matrix read, its policy built and printed, or the line of the refusal */
+uint64_t plain_weave(const uint8_t *input, size_t input_length, uint8_t *output, size_t output_length);
+
 #endif

@@ -191,7 +191,7 @@ pub extern "C" fn soroluzko_weave(input: &[u8], output: &mut [u8]) -> u64
 {
     let wrote = weave_bytes(input, output);
     match wrote {
-        Wrote::Length(size) => 256 * size as u64,
+        Wrote::Length(length) => 256 * length as u64,
         Wrote::Refused(r) => refusal_word(r),
     }
 }

@@ -40,7 +40,7 @@ use Rattle.claims.proofs.Build.{whole-of}
 use Rattle.claims.proofs.Files.{first-bytes, later-bytes, held-over}
 use Rattle.claims.proofs.FilesWritten.{wrote-apart, written-one, file-written}
 use Rattle.woven.specs.Weave.{five, refusalText, answerText, Woven, formed, malformed, longest, Weaves}
-use Rattle.woven.specs.Claims.{WovenTotal, WovenUnique, WovenPolicy, WovenRefused, WovenOnly, WovenCalls, WovenCut, example, WovenExample}
+use Rattle.woven.specs.Claims.{WovenTotal, WovenUnique, WovenPolicy, WovenRefused, WovenOnly, WovenCalls, WovenCut, example, gaps, WovenExample}
 use Rattle.woven.specs.Claims.{WeaveWrites, WeaveKeeps, WeaveUnique, WeaveAlone}
 use Rattle.woven.proofs.Answers.{formed-short, whole-four, built-file, answer-built, answer-refused, four-at, four-shown}
 use Rattle.woven.proofs.Answers.{built-stands, built-refused, read-file, read-refused}
@@ -123,20 +123,24 @@ woven-cut s t = (long, short)
     short (formed n k m f e) = formed n k m (subst (MatrixFile n k m) (sym (cut-formed MatrixFormed 33097 formed-short s (n, k, m, f))) f) e
     short (malformed p w e) = malformed p (cut-malformed MatrixFormed 33097 formed-short s p w) e
 
-pub woven-example : WovenExample
-unfolding matrixText policyText each answerText fullRules lowestRule lowest all any count first tab cell rows? alike? smallest isSmallest classes classOf
-    memberOf domainOf tableOf built matrixRules
-woven-example t w = woven-unique example t (answerText 3 1 m) w (formed 3 1 m f refl)
-  where
-    m : List ℕ
-    m = 0 ∷ 0 ∷ 1 ∷ 0 ∷ 0 ∷ 1 ∷ 0 ∷ 0 ∷ 0 ∷ []
+-- the file of nine cells of three entities
+nine : (m s : List ℕ) → length m ≡ 9 → checked (matrixRules 3 1 m) ≡ Fine → s ≡ matrixText 3 1 m → MatrixFile 3 1 m s
+nine m s size fine text = record {
+  laid = record { entities = omega arith; right = omega arith; rights = omega arith; size = size };
+  cells = matrix-fine 3 1 m fine .below;
+  text = text;
+}
 
-    f : MatrixFile 3 1 m example
-    f = record {
-      laid = record { entities = omega arith; right = omega arith; rights = omega arith; size = refl };
-      cells = matrix-fine 3 1 m refl .below;
-      text = refl;
-    }
+pub woven-example : WovenExample
+unfolding matrixText policyText each refusalText answerText matrixRules fullRules lowestRule lowest cellRefusal all any count first tab cell rows? alike?
+    smallest isSmallest classes classOf memberOf domainOf tableOf built
+woven-example t = (λ w. answered (nine full example refl refl refl) w, λ w. answered (nine part gaps refl refl refl) w)
+  where
+    full : List ℕ
+    full = 0 ∷ 0 ∷ 1 ∷ 0 ∷ 0 ∷ 1 ∷ 0 ∷ 0 ∷ 0 ∷ []
+
+    part : List ℕ
+    part = 1 ∷ 2 ∷ 2 ∷ 2 ∷ 2 ∷ 2 ∷ 2 ∷ 2 ∷ 0 ∷ []
 
 -- no answer is longer than its room
 pub woven-short : {s t : List ℕ} → Woven s t → length t ≤ longest

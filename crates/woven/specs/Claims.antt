@@ -56,21 +56,26 @@ WovenCalls = (s x x′ : List ℕ) → 32768 ≤ length x
 abbrev pub WovenCut : Type 0
 WovenCut = (s t : List ℕ) → Woven (take 33098 s) t ↔ Woven s t
 
--- document 01's whole example
+-- document 01's whole example, and the file of its P10
 abbrev pub example : List ℕ
 example =
     line (77 ∷ 88 ∷ 48 ∷ 51 ∷ 49 ∷ [])
     ++ (line (82 ∷ 87 ∷ 48 ∷ 48 ∷ 48 ∷ 48 ∷ 49 ∷ [])
     ++ (line (82 ∷ 87 ∷ 48 ∷ 49 ∷ 48 ∷ 48 ∷ 49 ∷ []) ++ (line (82 ∷ 87 ∷ 48 ∷ 50 ∷ 48 ∷ 48 ∷ 48 ∷ []) ++ line (90 ∷ 90 ∷ []))))
 
-abbrev pub exampleAnswer : List ℕ
-exampleAnswer =
-    line (80 ∷ 68 ∷ 48 ∷ 51 ∷ 49 ∷ 48 ∷ 50 ∷ [])
-    ++ (line (65 ∷ 83 ∷ 48 ∷ 48 ∷ 48 ∷ 48 ∷ 48 ∷ 49 ∷ [])
-    ++ (line (84 ∷ 66 ∷ 48 ∷ 48 ∷ 48 ∷ 49 ∷ []) ++ (line (84 ∷ 66 ∷ 48 ∷ 49 ∷ 48 ∷ 48 ∷ []) ++ line (90 ∷ 90 ∷ []))))
+abbrev pub gaps : List ℕ
+gaps =
+    line (77 ∷ 88 ∷ 48 ∷ 51 ∷ 49 ∷ [])
+    ++ (line (82 ∷ 87 ∷ 48 ∷ 48 ∷ 49 ∷ 42 ∷ 42 ∷ [])
+    ++ (line (82 ∷ 87 ∷ 48 ∷ 49 ∷ 42 ∷ 42 ∷ 42 ∷ []) ++ (line (82 ∷ 87 ∷ 48 ∷ 50 ∷ 42 ∷ 42 ∷ 48 ∷ []) ++ line (90 ∷ 90 ∷ []))))
 
+-- they are answered by PD03102 and its lines, and by NO0400001
 abbrev pub WovenExample : Type 0
-WovenExample = (t : List ℕ) → Woven example t → t ≡ exampleAnswer
+WovenExample = (t : List ℕ)
+    → (Woven example t → t ≡ line (80 ∷ 68 ∷ 48 ∷ 51 ∷ 49 ∷ 48 ∷ 50 ∷ [])
+    ++ (line (65 ∷ 83 ∷ 48 ∷ 48 ∷ 48 ∷ 48 ∷ 48 ∷ 49 ∷ [])
+    ++ (line (84 ∷ 66 ∷ 48 ∷ 48 ∷ 48 ∷ 49 ∷ []) ++ (line (84 ∷ 66 ∷ 48 ∷ 49 ∷ 48 ∷ 48 ∷ []) ++ line (90 ∷ 90 ∷ [])))))
+    × (Woven gaps t → t ≡ line (78 ∷ 79 ∷ 48 ∷ 52 ∷ 48 ∷ 48 ∷ 48 ∷ 48 ∷ 49 ∷ []))
 
 -- ---- the call
 
