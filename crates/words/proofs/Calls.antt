@@ -24,9 +24,9 @@ use Rattle.alike.specs.Compare.{alikeRules, alikeTold}
 use Rattle.build.specs.Build.{builtFrom, buildRules, buildTold}
 use Rattle.judge.specs.Judge.{judgeRules, conflict, verdict, judgeTold}
 use Rattle.judge.proofs.Exits.{judgeable}
-use Rattle.words.specs.Word.{fields, word, unword, Carried}
-use Rattle.words.specs.Calls.{judgeFields, AskKept, AlikeKept, BuildKept, JudgeKept}
-use Rattle.words.proofs.Word.{Fit, none, more, Held, word-kept, word-low}
+use Rattle.words.specs.Word.{fields, word, unword, Carried, Fit, none, more, Held}
+use Rattle.words.specs.Calls.{judgeFields, JudgeHeld, enforcing, conflicting, refusing, AskKept, AlikeKept, BuildKept, JudgeKept}
+use Rattle.words.proofs.Word.{word-kept, word-low}
 use Rattle.words.proofs.Carried.{ask-carried, alike-carried, build-carried, judge-carried}
 
 -- what is told has room where the values have, and where each refusal has
@@ -65,11 +65,6 @@ pub build-kept : BuildKept
 build-kept n k m x y = let t = buildTold n k m x y in let h = build-held n k m x y in (word-kept (8 ∷ []) t h, word-low (8 ∷ []) (omega arith) t h)
 
 -- ---- the judge: bits 8 to 15 tell whether two fields follow or three
-
-pub data JudgeHeld : Told → Type 0 where
-  enforcing : (d : ℕ) → d < 2 ^ 16 → JudgeHeld (values (0 ∷ d ∷ []))
-  conflicting : (i x : ℕ) → i < 2 ^ 16 → x < 2 ^ 8 → JudgeHeld (values (1 ∷ i ∷ x ∷ []))
-  refusing : (r : Refusal) → Carried r → JudgeHeld (refused r)
 
 abbrev wide : List ℕ
 wide = 8 ∷ 16 ∷ 8 ∷ []

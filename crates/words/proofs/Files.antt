@@ -17,9 +17,9 @@ use Rattle.layout.proofs.Contents.{matrix-length, policy-length, short, matrix-
 use Rattle.layout.proofs.Faults.{place-short}
 use Rattle.files.specs.Read.{MatrixRead, PolicyRead, formed, malformed}
 use Rattle.files.specs.Write.{matrixWriteRules, policyWriteRules, Written}
-use Rattle.words.specs.Word.{Carried}
+use Rattle.words.specs.Word.{Carried, none, more, Held}
 use Rattle.words.specs.Files.{ReadMatrixKept, ReadPolicyKept, WriteMatrixKept, WritePolicyKept}
-use Rattle.words.proofs.Word.{none, more, Held, word-kept, word-low}
+use Rattle.words.proofs.Word.{word-kept, word-low}
 use Rattle.words.proofs.Carried.{carried, sizes-carried, matrix-carried, assignment-carried, table-carried, room-carried}
 use Rattle.words.proofs.Calls.{told-held}
 

@@ -9,8 +9,9 @@ use Rattle.model.specs.Rules.{roomRules}
 use Rattle.files.specs.Write.{Written}
 use Rattle.woven.specs.Weave.{Woven, longest}
 use Rattle.woven.proofs.Claims.{woven-short}
+use Rattle.words.specs.Word.{none, more, Held}
 use Rattle.words.specs.Weave.{WeaveKept}
-use Rattle.words.proofs.Word.{none, more, Held, word-kept, word-low}
+use Rattle.words.proofs.Word.{word-kept, word-low}
 use Rattle.words.proofs.Carried.{room-carried}
 use Rattle.words.proofs.Calls.{told-held}
 

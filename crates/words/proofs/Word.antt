@@ -8,7 +8,7 @@ use native.Mathlib.Omega.{arith}
 use borrow.Author.Tests.{eq-eqb, ne-eqb}
 use lib.Arith.{digits-lt, digits-div, digits-mod}
 use Rattle.model.specs.Refusal.{Told, values, refused}
-use Rattle.words.specs.Word.{fields, unfields, placeBits, word, unword, Carried}
+use Rattle.words.specs.Word.{fields, unfields, placeBits, word, unword, Fit, none, more, Held}
 
 -- a sum's low digit, and what is above it
 turned : (b x f : ℕ) → x + b * f ≡ f * b + x
@@ -19,11 +19,6 @@ low b x f h = ap (λ (y : ℕ). y % b) (turned b x f) ∙ digits-mod f h
 
 high : (b x f : ℕ) → x < b → (x + b * f) / b ≡ f
 high b x f h = ap (λ (y : ℕ). y / b) (turned b x f) ∙ digits-div f h
-
--- a value for each field, and each has room in its own
-pub data Fit : List ℕ → List ℕ → Type 0 where
-  none : Fit [] []
-  more : {w : ℕ} {ws : List ℕ} {x : ℕ} {vs : List ℕ} → x < 2 ^ w → Fit ws vs → Fit (w ∷ ws) (x ∷ vs)
 
 pub fit-first : {w x : ℕ} {ws vs : List ℕ} → Fit (w ∷ ws) (x ∷ vs) → x < 2 ^ w
 fit-first (more h f) = h
@@ -37,11 +32,6 @@ fields-kept [] [] none = refl
 fields-kept (w ∷ ws) (x ∷ vs) (more h f) =
     ap₂ (λ (y : ℕ) (ys : List ℕ). y ∷ ys) (low (2 ^ w) x (fields ws vs) h)
     (ap (unfields ws) (high (2 ^ w) x (fields ws vs) h) ∙ fields-kept ws vs f)
-
--- what a word can carry
-abbrev pub Held : List ℕ → Told → Type 0
-Held ws (values vs) = Fit ws vs
-Held ws (refused r) = Carried r
 
 module _ (ws : List ℕ) (y : ℕ) where
   unword-values : y % 256 ≡ 0 → unword ws y ≡ values (unfields ws (y / 256))

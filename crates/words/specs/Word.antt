@@ -35,6 +35,16 @@ pub record Carried (r : Refusal) : Type 0 where
   pub number : r .number < 256
   pub place : r .place < 2 ^ placeBits
 
+-- a value for each field, and each has room in its own
+pub data Fit : List ℕ → List ℕ → Type 0 where
+  none : Fit [] []
+  more : {w : ℕ} {ws : List ℕ} {x : ℕ} {vs : List ℕ} → x < 2 ^ w → Fit ws vs → Fit (w ∷ ws) (x ∷ vs)
+
+-- what a word can carry
+abbrev pub Held : List ℕ → Told → Type 0
+Held ws (values vs) = Fit ws vs
+Held ws (refused r) = Carried r
+
 -- nothing is lost: the word tells what was told, and has no more bits
 abbrev pub Kept : List ℕ → ℕ → Told → Type 0
 Kept ws bits t = (unword ws (word ws t) ≡ t) × (word ws t < 2 ^ bits)

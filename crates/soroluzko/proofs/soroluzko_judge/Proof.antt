@@ -1,96 +1,21 @@
--- `soroluzko::soroluzko_judge` meets its contract: each case of the answer has its word, which has room for it (`Calls`). Assumes nothing.
-use mathlib.Core.Path.{_≡_, sym, ap, _∙_, subst}
+-- `soroluzko::soroluzko_judge` meets its contract: what the call tells has room in its word (`Calls`). Assumes nothing.
+use mathlib.Core.Path.{sym, ap, _∙_, subst}
 use mathlib.Core.List.{[], _∷_}
-use Prim.Native.Nat.{ℕ, _+_, _*_, _^_, _<_}
-use native.Mathlib.Omega.{arith}
-use Rattle.judge.specs.Judge.{judgedTold}
-use Rattle.words.specs.Word.{fields, word}
-use Rattle.words.proofs.Calls.{JudgeHeld, judge-held, domains-held, conflict-held, refusal-held}
+use Rattle.words.specs.Word.{word}
+use Rattle.words.specs.Calls.{JudgeHeld}
+use Rattle.words.proofs.Calls.{judge-held}
 use borrow.Author.Needs.{needs}
 use Rattle.soroluzko.proofs.soroluzko_judge.Statement.{statement}
 use Rattle.soroluzko.proofs.soroluzko_judge.Tie as tie
 
-domains : (c : tie.After-known-told) → c .before .judged .given .0 .0 < 2 ^ 16
-domains c =
-    let told = sym (c .before .before .before .judge .ensures) ∙ ap judgedTold (c .before .judged .given .1) in
-    domains-held (subst JudgeHeld told (judge-held _ _ _ _))
-
-conflict : (c : tie.After-known-told2) → let g = c .before .judged2 .given .0 in (g .0 < 2 ^ 16) × (g .1 .0 < 2 ^ 8)
-conflict c =
-    let told = sym (c .before .before .before .judge .ensures) ∙ ap judgedTold (c .before .judged2 .given .1) in
-    conflict-held (subst JudgeHeld told (judge-held _ _ _ _))
-
 judge-requires : tie.Need-judge-requires
 judge-requires c κs = search needs
 
-enum-known-judged : tie.Need-enum-known-judged
-enum-known-judged c = search needs
-
-mul-result : tie.Need-mul-result
-mul-result c = omega (arith, domains c)
-
-enum-known-judged-2 : tie.Need-enum-known-judged-2
-enum-known-judged-2 c = search needs
-
-mul-result-2 : tie.Need-mul-result-2
-mul-result-2 c = omega (arith, conflict c .0)
-
-add-result : tie.Need-add-result
-add-result c = omega (arith, conflict c .0)
-
-cast-result : tie.Need-cast-result
-cast-result c = search needs
-
-mul-result-3 : tie.Need-mul-result-3
-mul-result-3 c = search needs
-
-add-result-2 : tie.Need-add-result-2
-add-result-2 c = omega (arith, conflict c .0, conflict c .1)
-
-enum-known-judged-3 : tie.Need-enum-known-judged-3
-enum-known-judged-3 c = search needs
-
-refusal-word-requires : tie.Need-refusal-word-requires
-refusal-word-requires c κs =
-    let told = sym (c .before .before .before .judge .ensures) ∙ ap judgedTold (c .before .judged3 .given .1) in
-    refusal-held (subst JudgeHeld told (judge-held _ _ _ _))
+judged-word-requires : tie.Need-judged-word-requires
+judged-word-requires c κs = subst (JudgeHeld) (sym (c .judge .ensures)) (judge-held _ _ _ _)
 
 returns : tie.Need-returns
-unfolding word fields
-returns c =
-    let d = c .before .judged .given .0 .0 in
-    let above : 65536 * d ≡ 256 * (0 + 2 ^ 8 * (d + 2 ^ 16 * 0)) = omega arith in
-    above ∙ ap (word (8 ∷ 16 ∷ 8 ∷ [])) (sym (ap judgedTold (c .before .judged .given .1)) ∙ c .before .before .before .judge .ensures)
-
-returns-2 : tie.Need-returns-2
-unfolding word fields
-returns-2 c =
-    let i = c .before .judged2 .given .0 .0 in
-    let x = c .before .judged2 .given .0 .1 .0 in
-    let above : 256 + 65536 * i + 4294967296 * x ≡ 256 * (1 + 2 ^ 8 * (i + 2 ^ 16 * (x + 2 ^ 8 * 0))) = omega arith in
-    above ∙ ap (word (8 ∷ 16 ∷ 8 ∷ [])) (sym (ap judgedTold (c .before .judged2 .given .1)) ∙ c .before .before .before .judge .ensures)
-
-returns-3 : tie.Need-returns-3
-unfolding word fields
-returns-3 c =
-    let told = sym (ap judgedTold (c .before .before .judged3 .given .1)) ∙ c .before .before .before .before .judge .ensures in
-    c .refusal-word .ensures ∙ ap (word (8 ∷ 16 ∷ 8 ∷ [])) told
+returns c = c .judged-word .ensures ∙ ap (word (8 ∷ 16 ∷ 8 ∷ [])) (c .before .judge .ensures)
 
 pub soroluzko-judge-spec : {M : Type 1} → statement M
-soroluzko-judge-spec =
-    tie.close
-    (tie.spec
-    judge-requires
-    enum-known-judged
-    mul-result
-    enum-known-judged-2
-    mul-result-2
-    add-result
-    cast-result
-    mul-result-3
-    add-result-2
-    enum-known-judged-3
-    refusal-word-requires
-    returns
-    returns-2
-    returns-3)
+soroluzko-judge-spec = tie.close (tie.spec judge-requires judged-word-requires returns)
