@@ -1,4 +1,1 @@
-pub mod Rows
-pub mod Exits
-pub mod Clauses
 pub mod Told

@@ -38,7 +38,7 @@ pub fn build(n: usize, k: usize, matrix: &[u8], assignment: &mut [u8], table: &m
 fn build_fits(n: usize, k: usize, matrix: &[u8], room: usize) -> Checked
     ensures { λ r. ⌜ r ≡ checked (wholeRules n k (now (matrix .entry)) ++ roomRules 10 room n) ⌝ }
 {
-    let whole = scan::whole_fits(n, k, matrix);
+    let whole = lists::whole_fits(n, k, matrix);
     if let Checked::Bad(r) = whole {
         return Checked::Bad(r);
     }

@@ -16,12 +16,13 @@ use Rattle.model.proofs.Rules.{sizes-pass, matrix-pass, assignment-pass, table-
 use Rattle.layout.specs.Text.{matrixText, policyText}
 use Rattle.layout.specs.Files.{MatrixFile, PolicyFile}
 use Rattle.layout.proofs.Contents.{matrix-one, policy-one}
+use Rattle.writable.specs.Rules.{matrixWriteRules, policyWriteRules}
+use Rattle.writable.proofs.Rules.{matrix-writable, policy-writable}
 use Rattle.files.specs.declared.ReadMatrix.{ReadMatrix}
 use Rattle.files.specs.declared.ReadPolicy.{ReadPolicy}
 use Rattle.files.specs.declared.Wrote.{Wrote}
 use Rattle.files.specs.declared.Wrote.the-variants.{Length, Refused as WriteRefused}
-use Rattle.files.specs.Write.{wroteTold, matrixWriteRules, policyWriteRules, Written}
-use Rattle.files.proofs.Writes.{matrix-writable, policy-writable}
+use Rattle.files.specs.Write.{wroteTold, Written}
 use Rattle.claims.specs.Build.{written}
 use Rattle.claims.specs.Files.{ReadsMatrix, ReadsPolicy, WritesMatrix, WritesPolicy, FileWritten, WriteKeeps, WriteServes}
 use Rattle.claims.specs.Files.{WrittenRead, ReadWritten, WriteMatrixUnique, WritePolicyUnique}

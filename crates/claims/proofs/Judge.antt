@@ -20,9 +20,10 @@ use Rattle.model.proofs.Places.{cell-inside, place}
 use Rattle.model.proofs.Clashes.{clash-grant, clash-deny, clash-shows, clashAt, clash-cell, agrees-iff}
 use Rattle.model.proofs.Groups.{values-refused, tell-fine, told-fine, group-fine}
 use Rattle.model.proofs.Rules.{sizes-pass, matrix-pass, assignment-pass, table-pass}
+use Rattle.conflicts.specs.Conflict.{conflict}
 use Rattle.judge.specs.declared.Judged.{Judged}
 use Rattle.judge.specs.declared.Judged.the-variants as judged
-use Rattle.judge.specs.Judge.{judgeRules, conflict, verdict, judgeTold, judgedTold, Judges}
+use Rattle.judge.specs.Judge.{judgeRules, verdict, judgeTold, judgedTold, Judges}
 use Rattle.claims.specs.Judge.{Contradicts, FirstConflict, Judgable, JudgeAccepts, JudgeConflicts, JudgeServes, JudgeUnique}
 
 -- what is told determines the answer

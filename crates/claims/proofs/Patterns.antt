@@ -10,7 +10,8 @@ use Rattle.model.specs.Clash.{clash?, firstClash}
 use Rattle.model.specs.Refusal.{refusal, cellRefusal}
 use Rattle.model.specs.Rules.{lowest, lowestRule, sizeRules, matrixRules, fullRules, wholeRules, assignmentRules, tableRules, roomRules}
 use Rattle.build.specs.Build.{buildRules, buildTold}
-use Rattle.judge.specs.Judge.{judgeRules, conflict, verdict, judgeTold}
+use Rattle.conflicts.specs.Conflict.{conflict}
+use Rattle.judge.specs.Judge.{judgeRules, verdict, judgeTold}
 use Rattle.claims.specs.Patterns.{patterns, PatternsMet}
 
 pub patterns-met : PatternsMet

@@ -9,6 +9,7 @@ use Rattle.model.specs.Policy.{Policy}
 use Rattle.model.specs.Refusal.{refusal}
 use Rattle.layout.specs.Text.{matrixText, policyText}
 use Rattle.layout.specs.Files.{MatrixFile, PolicyFile, MatrixFormed, PolicyFormed, Malformed}
+use Rattle.writable.specs.Rules.{matrixWriteRules, policyWriteRules}
 use Rattle.files.specs.declared.ReadMatrix.{ReadMatrix}
 use Rattle.files.specs.declared.ReadMatrix.the-variants.{Matrix, Refused as MatrixRefused}
 use Rattle.files.specs.declared.ReadPolicy.{ReadPolicy}
@@ -16,7 +17,7 @@ use Rattle.files.specs.declared.ReadPolicy.the-variants.{Policy as APolicy, Ref
 use Rattle.files.specs.declared.Wrote.{Wrote}
 use Rattle.files.specs.declared.Wrote.the-variants.{Length, Refused as WriteRefused}
 use Rattle.files.specs.Read.{readMatrixTold, readPolicyTold, MatrixRead, PolicyRead}
-use Rattle.files.specs.Write.{wroteTold, matrixWriteRules, policyWriteRules, Written}
+use Rattle.files.specs.Write.{wroteTold, Written}
 use Rattle.claims.specs.Build.{written}
 
 -- the promises of the four calls: s is the file that is read, r the answer, and x′ and y′ are what the buffers x and y become

@@ -1,13 +1,12 @@
 // The matrix file and the policy file, read and written.
 use model::Checked;
 use model::Refusal;
-ghost use mathlib.Core.Path.{_≡_};
 ghost use lib.ListN.{length};
 ghost use Rattle.model.specs.Policy.{policy};
-ghost use Rattle.model.specs.Refusal.{checked};
 ghost use Rattle.layout.specs.Text.{matrixText, policyText};
+ghost use Rattle.writable.specs.Rules.{matrixWriteRules, policyWriteRules};
 ghost use Rattle.files.specs.Read.{readMatrixTold, readPolicyTold, MatrixRead, PolicyRead};
-ghost use Rattle.files.specs.Write.{wroteTold, matrixWriteRules, policyWriteRules, Written};
+ghost use Rattle.files.specs.Write.{wroteTold, Written};
 
 pub enum ReadMatrix {
     Matrix { n: usize, k: usize },
@@ -53,25 +52,11 @@ pub fn write_matrix(n: usize, k: usize, matrix: &[u8], file: &mut [u8]) -> Wrote
         (now (file .entry)) (wroteTold r) (now (file .exit))
         ⌝ }
 {
-    let fits = matrix_fits(n, k, matrix, file.len());
+    let fits = writable::matrix_fits(n, k, matrix, file.len());
     if let Checked::Bad(r) = fits {
         return Wrote::Refused(r);
     }
     Wrote::Length(whole::put_matrix(n, k, matrix, file))
-}
-
-fn matrix_fits(n: usize, k: usize, matrix: &[u8], room: usize) -> Checked
-    ensures { λ r. ⌜ r ≡ checked (matrixWriteRules n k (now (matrix .entry)) room) ⌝ }
-{
-    let sized = scan::sizes(n, k, 0);
-    if let Checked::Bad(r) = sized {
-        return Checked::Bad(r);
-    }
-    let cells = scan::matrix_fits(n, k, matrix);
-    if let Checked::Bad(r) = cells {
-        return Checked::Bad(r);
-    }
-    scan::room_fits(11, room, 9 + n * (k * n + 5))
 }
 
 // ---- the policy file
@@ -118,34 +103,9 @@ pub fn write_policy(
         (policyText n k (policy d (now (assignment .entry)) (now (table .entry)))) (now (file .entry)) (wroteTold r) (now (file .exit))
         ⌝ }
 {
-    let fits = policy_fits(n, k, d, assignment, table, file.len());
+    let fits = writable::policy_fits(n, k, d, assignment, table, file.len());
     if let Checked::Bad(r) = fits {
         return Wrote::Refused(r);
     }
     Wrote::Length(whole::put_policy(n, k, d, assignment, table, file))
-}
-
-fn policy_fits(
-    n: usize,
-    k: usize,
-    d: usize,
-    assignment: &[u8],
-    table: &[u8],
-    room: usize,
-) -> Checked
-    ensures { λ r. ⌜ r ≡ checked (policyWriteRules n k (policy d (now (assignment .entry)) (now (table .entry))) room) ⌝ }
-{
-    let sized = scan::sizes(n, k, d);
-    if let Checked::Bad(r) = sized {
-        return Checked::Bad(r);
-    }
-    let domains = scan::assignment_fits(n, d, assignment);
-    if let Checked::Bad(r) = domains {
-        return Checked::Bad(r);
-    }
-    let cells = scan::table_fits(k, d, table);
-    if let Checked::Bad(r) = cells {
-        return Checked::Bad(r);
-    }
-    scan::room_fits(11, room, 14 + n * 2 + d * (k * d + 5))
 }

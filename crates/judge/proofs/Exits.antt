@@ -13,7 +13,8 @@ use Rattle.model.specs.Refusal.{Rule, checked, values, refused, tell}
 use Rattle.model.specs.Rules.{sizeRules, matrixRules, assignmentRules, tableRules}
 use Rattle.model.proofs.Groups.{group-fine, group-bad, groups-fine}
 use Rattle.model.proofs.Rules.{sizes-fine, matrix-fine, assignment-fine, table-fine}
-use Rattle.judge.specs.Judge.{judgeRules, conflict, verdict, judgeTold, Judgeable}
+use Rattle.conflicts.specs.Conflict.{conflict, Judgeable}
+use Rattle.judge.specs.Judge.{judgeRules, verdict, judgeTold}
 
 -- ---- the rules, group by group
 

@@ -2,14 +2,13 @@
 use mathlib.Core.Path.{_≡_}
 use mathlib.Core.Bool.{cond}
 use mathlib.Core.List.{List, [], _∷_, _++_}
-use Prim.Native.Nat.{ℕ, _*_, _≤_}
+use Prim.Native.Nat.{ℕ, _*_}
 use lib.Dec.{ltb}
 use lib.ListN.{getD}
-use Rattle.model.specs.Matrix.{cell, Laid}
-use Rattle.model.specs.Policy.{Policy, Valid, answer}
-use Rattle.model.specs.Clash.{firstClash}
+use Rattle.model.specs.Policy.{Policy}
 use Rattle.model.specs.Refusal.{Rule, checked, Told, values, refused, tell}
 use Rattle.model.specs.Rules.{sizeRules, matrixRules, assignmentRules, tableRules}
+use Rattle.conflicts.specs.Conflict.{conflict}
 use Rattle.judge.specs.declared.Judged.{Judged}
 use Rattle.judge.specs.declared.Judged.the-variants.{Enforces, Conflict, Refused}
 
@@ -18,10 +17,6 @@ unfoldable pub judgeRules : ℕ → ℕ → List ℕ → Policy → List Rule
 judgeRules n k m P =
     sizeRules n k (P .domains)
     ++ (matrixRules n k m ++ (assignmentRules n (P .domains) (P .assignment) ++ tableRules k (P .domains) (P .table)))
-
--- the first cell of m that the policy contradicts, in cell order, or the number of cells
-unfoldable pub conflict : ℕ → ℕ → List ℕ → Policy → ℕ
-conflict n k m P = firstClash n k (cell k n m) (answer k P)
 
 -- 1 for a conflict, its cell and the value logged there; or 0 for "enforces", and the policy's number of domains
 unfoldable pub verdict : ℕ → ℕ → List ℕ → Policy → List ℕ
@@ -40,9 +35,3 @@ judgedTold (Refused r) = refused r
 -- the promise: r is the judgement of P over m
 abbrev pub Judges : ℕ → ℕ → List ℕ → Policy → Judged → Type 0
 Judges n k m P r = judgedTold r ≡ judgeTold n k m P
-
--- what the search for a conflict may take for granted: a matrix and a policy within the limits
-pub record Judgeable (n k : ℕ) (m : List ℕ) (P : Policy) : Type 0 where
-  pub matrix : Laid n k m
-  pub few : P .domains ≤ 64
-  pub policy : Valid n k P

@@ -6,7 +6,7 @@ ghost use mathlib.Core.Path.{_≡_};
 ghost use lib.ListN.{length};
 ghost use Rattle.model.specs.Policy.{policy};
 ghost use Rattle.layout.specs.Text.{matrixText, policyText};
-ghost use Rattle.files.specs.Write.{matrixWriteRules, policyWriteRules};
+ghost use Rattle.writable.specs.Rules.{matrixWriteRules, policyWriteRules};
 ghost use Rattle.build.specs.Build.{assignmentLeft, tableLeft};
 ghost use Rattle.woven.specs.Weave.{Weaves};
 ghost use Rattle.words.specs.Calls.{askWord, alikeWord, buildWord, judgeWord};

@@ -18,7 +18,7 @@ ghost use Rattle.layout.specs.Layout.{reach, Piece, PolicySizes, numberAt, digi
 pub fn matrix_place(file: &[u8]) -> usize
     ensures { λ r. ⌜ r ≡ reach matrixLayout (now (file .entry)) ⌝ }
 {
-    let sized = readers::read_sizes(file, b"MX");
+    let sized = records::read_sizes(file, b"MX");
     if sized < 5 {
         return sized;
     }
@@ -29,11 +29,11 @@ pub fn matrix_place(file: &[u8]) -> usize
     let n = fills::number_at(file, 2);
     let k = fills::digit_at(file, 4);
     let end = 6 + n * (k * n + 5);
-    let filled = readers::read_records(file, 6, b"RW", 3, k * n, n);
+    let filled = records::read_records(file, 6, b"RW", 3, k * n, n);
     if filled < end {
         return filled;
     }
-    readers::read_close(file, end)
+    records::read_close(file, end)
 }
 
 // The file, and its length.
@@ -70,18 +70,18 @@ pub fn policy_place(file: &[u8]) -> usize
         return named;
     }
     let end = from + d * (k * d + 5);
-    let filled = readers::read_records(file, from, b"TB", 2, k * d, d);
+    let filled = records::read_records(file, from, b"TB", 2, k * d, d);
     if filled < end {
         return filled;
     }
-    readers::read_close(file, end)
+    records::read_close(file, end)
 }
 
 // The first line: where there are entities there is a domain.
 fn read_head(file: &[u8]) -> usize
     ensures { λ r. ⌜ PolicySizes (now (file .entry)) r (numberAt (now (file .entry)) 2) (digitAt (now (file .entry)) 4) (numberAt (now (file .entry)) 5) ⌝ }
 {
-    let sized = readers::read_sizes(file, b"PD");
+    let sized = records::read_sizes(file, b"PD");
     if sized < 5 {
         return sized;
     }

@@ -22,7 +22,8 @@ use Rattle.model.proofs.Rules.{whole-fine, matrix-fine}
 use Rattle.ask.specs.Ask.{askRules, granted, askTold}
 use Rattle.alike.specs.Compare.{alikeRules, alikeTold}
 use Rattle.build.specs.Build.{builtFrom, buildRules, buildTold}
-use Rattle.judge.specs.Judge.{judgeRules, conflict, verdict, judgeTold}
+use Rattle.conflicts.specs.Conflict.{conflict}
+use Rattle.judge.specs.Judge.{judgeRules, verdict, judgeTold}
 use Rattle.judge.proofs.Exits.{judgeable}
 use Rattle.words.specs.Word.{fields, word, unword, Carried, Fit, none, more, Held}
 use Rattle.words.specs.Calls.{judgeFields, JudgeHeld, enforcing, conflicting, refusing, AskKept, AlikeKept, BuildKept, JudgeKept}

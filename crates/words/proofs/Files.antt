@@ -15,8 +15,9 @@ use Rattle.layout.specs.Text.{matrixText, policyText}
 use Rattle.layout.specs.Files.{MatrixFormed, PolicyFormed}
 use Rattle.layout.proofs.Contents.{matrix-length, policy-length, short, matrix-short, policy-short}
 use Rattle.layout.proofs.Faults.{place-short}
+use Rattle.writable.specs.Rules.{matrixWriteRules, policyWriteRules}
 use Rattle.files.specs.Read.{MatrixRead, PolicyRead, formed, malformed}
-use Rattle.files.specs.Write.{matrixWriteRules, policyWriteRules, Written}
+use Rattle.files.specs.Write.{Written}
 use Rattle.words.specs.Word.{Carried, none, more, Held}
 use Rattle.words.specs.Files.{ReadMatrixKept, ReadPolicyKept, WriteMatrixKept, WritePolicyKept}
 use Rattle.words.proofs.Word.{word-kept, word-low}

@@ -6,8 +6,9 @@ use lib.ListN.{length}
 use Rattle.model.specs.Policy.{Policy}
 use Rattle.model.specs.Refusal.{Rule, Told}
 use Rattle.layout.specs.Text.{matrixText, policyText}
+use Rattle.writable.specs.Rules.{matrixWriteRules, policyWriteRules}
 use Rattle.files.specs.Read.{MatrixRead, PolicyRead}
-use Rattle.files.specs.Write.{matrixWriteRules, policyWriteRules, Written}
+use Rattle.files.specs.Write.{Written}
 use Rattle.words.specs.Word.{word, Kept}
 
 -- read matrix: bits 8 to 15 are n, the next 8 k. w is the word of what is told

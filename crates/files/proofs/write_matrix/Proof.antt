@@ -7,8 +7,9 @@ use lib.ListN.{length}
 use Rattle.model.specs.declared.Checked.the-variants.{Fine}
 use Rattle.model.specs.Refusal.{Rule, checked}
 use Rattle.layout.specs.Text.{matrixText}
-use Rattle.files.specs.Write.{matrixWriteRules}
-use Rattle.files.proofs.Writes.{written-bad, written-fine, matrix-writable, matrix-enough}
+use Rattle.writable.specs.Rules.{matrixWriteRules}
+use Rattle.writable.proofs.Rules.{matrix-writable, matrix-enough}
+use Rattle.files.proofs.Writes.{written-bad, written-fine}
 use borrow.Author.Needs.{needs}
 use Rattle.files.proofs.write_matrix.Statement.{statement}
 use Rattle.files.proofs.write_matrix.Tie as tie

@@ -8,8 +8,9 @@ use Rattle.model.specs.declared.Checked.the-variants.{Fine}
 use Rattle.model.specs.Policy.{Policy, policy}
 use Rattle.model.specs.Refusal.{Rule, checked}
 use Rattle.layout.specs.Text.{policyText}
-use Rattle.files.specs.Write.{policyWriteRules}
-use Rattle.files.proofs.Writes.{written-bad, written-fine, policy-writable, policy-enough}
+use Rattle.writable.specs.Rules.{policyWriteRules}
+use Rattle.writable.proofs.Rules.{policy-writable, policy-enough}
+use Rattle.files.proofs.Writes.{written-bad, written-fine}
 use borrow.Author.Needs.{needs}
 use Rattle.files.proofs.write_policy.Statement.{statement}
 use Rattle.files.proofs.write_policy.Tie as tie
