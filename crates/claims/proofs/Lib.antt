@@ -1,4 +1,3 @@
-pub mod Paper
 pub mod Ask
 pub mod Build
 pub mod Alike

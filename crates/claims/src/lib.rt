@@ -1,1 +1,1 @@
-// What is claimed of the definitions and of the calls, in specs/, with the proofs in proofs/; this crate has no code.
+// What is claimed of the calls, in specs/, with the proofs in proofs/; this crate has no code.

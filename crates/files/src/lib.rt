@@ -30,7 +30,7 @@ pub enum Wrote {
 pub fn read_matrix(file: &[u8], matrix: &mut [u8]) -> ReadMatrix
     ensures { λ r. ⌜ MatrixRead (now (file .entry)) (now (matrix .entry)) (readMatrixTold r) (now (matrix .exit)) ⌝ }
 {
-    let formed = scan::place_fits(12, whole::matrix_place(file), file.len());
+    let formed = scan::place_fits(12, places::matrix_place(file), file.len());
     if let Checked::Bad(r) = formed {
         return ReadMatrix::Refused(r);
     }
@@ -56,7 +56,7 @@ pub fn write_matrix(n: usize, k: usize, matrix: &[u8], file: &mut [u8]) -> Wrote
     if let Checked::Bad(r) = fits {
         return Wrote::Refused(r);
     }
-    Wrote::Length(whole::put_matrix(n, k, matrix, file))
+    Wrote::Length(texts::put_matrix(n, k, matrix, file))
 }
 
 // ---- the policy file
@@ -68,7 +68,7 @@ pub fn read_policy(file: &[u8], assignment: &mut [u8], table: &mut [u8]) -> Read
         PolicyRead (now (file .entry)) (now (assignment .entry)) (now (table .entry)) (readPolicyTold r) (now (assignment .exit)) (now (table .exit))
         ⌝ }
 {
-    let formed = scan::place_fits(12, whole::policy_place(file), file.len());
+    let formed = scan::place_fits(12, places::policy_place(file), file.len());
     if let Checked::Bad(r) = formed {
         return ReadPolicy::Refused(r);
     }
@@ -107,5 +107,5 @@ pub fn write_policy(
     if let Checked::Bad(r) = fits {
         return Wrote::Refused(r);
     }
-    Wrote::Length(whole::put_policy(n, k, d, assignment, table, file))
+    Wrote::Length(texts::put_policy(n, k, d, assignment, table, file))
 }

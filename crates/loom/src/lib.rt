@@ -1,31 +1,13 @@
 // The answer to an input, put down: the file of its matrix's policy, or the line of a refusal.
 use build::Built;
 use files::ReadMatrix;
-use model::Refusal;
 ghost use mathlib.Core.Path.{_≡_};
-ghost use Prim.Native.Nat.{_≤_, _<_};
+ghost use Prim.Native.Nat.{_≤_};
 ghost use lib.ListN.{length};
 ghost use Rattle.model.specs.Refusal.{over};
 ghost use Rattle.layout.specs.Text.{matrixText};
 ghost use Rattle.layout.specs.Files.{MatrixFile};
-ghost use Rattle.woven.specs.Weave.{refusalText, answerText, longest, Wove};
-
-// The line of a refusal, and its length.
-fn put_refusal(r: Refusal, output: &mut [u8]) -> usize
-    requires { ⌜ (r .number < 100) × (r .place < 100000) × (10 ≤ length (now output)) ⌝ }
-    ensures { λ size. ⌜ size ≡ length (refusalText r) ⌝ }
-    ensures { λ _. ⌜ now (output .exit) ≡ over (refusalText r) (now (output .entry)) ⌝ }
-{
-    let number = r.number;
-    let place = r.place;
-    writers::put(output, 0, b"NO");
-    writers::put_number(output, 2, number);
-    writers::put_digit(output, 4, place / 10000);
-    writers::put_number(output, 5, place / 100 % 100);
-    writers::put_number(output, 7, place % 100);
-    writers::put(output, 9, b"\n");
-    10
-}
+ghost use Rattle.woven.specs.Weave.{answerText, longest, Wove};
 
 // The answer to a matrix that is within the limits, and its length. The policy is built in the two buffers that are lent.
 fn put_answer(
@@ -44,9 +26,9 @@ fn put_answer(
     let built = build::build(n, k, matrix, assignment, table);
     match built {
         Built::Domains(d) => {
-            whole::put_policy(n, k, d, &assignment[..n], &table[..d * k * d], output)
+            texts::put_policy(n, k, d, &assignment[..n], &table[..d * k * d], output)
         }
-        Built::Refused(r) => put_refusal(r, output),
+        Built::Refused(r) => refusals::put_refusal(r, output),
     }
 }
 
@@ -77,6 +59,6 @@ fn weave_in(
         ReadMatrix::Matrix { n, k } => {
             put_answer(n, k, &matrix[..n * k * n], assignment, table, output)
         }
-        ReadMatrix::Refused(r) => put_refusal(r, output),
+        ReadMatrix::Refused(r) => refusals::put_refusal(r, output),
     }
 }
