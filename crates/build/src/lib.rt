@@ -5,7 +5,7 @@ ghost use mathlib.Core.Path.{_≡_};
 ghost use mathlib.Core.List.{[], _∷_, _++_};
 ghost use Prim.Native.Nat.{_*_, _≤_};
 ghost use lib.ListN.{length};
-ghost use Rattle.model.specs.Below.{first, tab};
+ghost use Rattle.model.specs.Below.{tab};
 ghost use Rattle.model.specs.Matrix.{cell, Laid};
 ghost use Rattle.model.specs.Classes.{classes};
 ghost use Rattle.model.specs.Built.{tableOf};

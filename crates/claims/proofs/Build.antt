@@ -1,6 +1,6 @@
 -- The claims on the build. What is told shows whether a rule applied; where none did, each buffer is the built policy's bytes before its
 -- own later ones. Assumes nothing.
-use mathlib.Core.Path.{_≡_, refl, sym, ap, _∙_}
+use mathlib.Core.Path.{_≡_, sym, ap, _∙_}
 use mathlib.Core.List.{List, [], _∷_, _++_}
 use Prim.Native.Nat.{ℕ, _*_, _<_}
 use native.Mathlib.Omega.{arith}

@@ -1,8 +1,8 @@
 -- The claims on the judge. Where no rule applies, what is told is the first clash in cell order or that there is none; and there is none
 -- exactly where the policy enforces the matrix. Assumes nothing.
 use mathlib.Core.Path.{_≡_, refl, sym, ap, _∙_, subst}
-use mathlib.Core.Logic.{_⊎_, inl, inr}
-use mathlib.Core.Bool.{Bool, true, false, cond}
+use mathlib.Core.Logic.{inl, inr}
+use mathlib.Core.Bool.{Bool, true, false}
 use mathlib.Core.List.{List, [], _∷_, _++_}
 use Prim.Native.Nat.{ℕ, _*_, _/_, _%_, _≤_, _<_}
 use native.Mathlib.Omega.{arith}
@@ -23,7 +23,7 @@ use Rattle.model.proofs.Rules.{sizes-pass, matrix-pass, assignment-pass, table-
 use Rattle.conflicts.specs.Conflict.{conflict}
 use Rattle.judge.specs.declared.Judged.{Judged}
 use Rattle.judge.specs.declared.Judged.the-variants as judged
-use Rattle.judge.specs.Judge.{judgeRules, verdict, judgeTold, judgedTold, Judges}
+use Rattle.judge.specs.Judge.{judgeRules, verdict, judgeTold, judgedTold}
 use Rattle.claims.specs.Judge.{Contradicts, FirstConflict, Judgable, JudgeAccepts, JudgeConflicts, JudgeServes, JudgeUnique}
 
 -- what is told determines the answer

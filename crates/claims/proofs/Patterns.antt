@@ -1,5 +1,5 @@
 -- The patterns, by computation from the definitions. Assumes nothing.
-use mathlib.Core.Path.{_≡_, refl}
+use mathlib.Core.Path.{refl}
 use Rattle.model.specs.Below.{all, any, count, first, tab}
 use Rattle.model.specs.Matrix.{cell}
 use Rattle.model.specs.Alike.{rows?, alike?}

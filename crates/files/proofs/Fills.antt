@@ -1,8 +1,8 @@
 -- The exits of the two reads. Where the check stopped inside the file, the file is malformed and that is its place. Past its end the file is
 -- that of a matrix, or of a policy, with the numbers that its first line has; and what is filled from it is the rest. Assumes nothing.
-use mathlib.Core.Path.{_≡_, refl, sym, ap, ap₂, _∙_, subst}
+use mathlib.Core.Path.{_≡_, refl, sym, ap, _∙_, subst}
 use mathlib.Core.Bool.{Bool, true, false, cond}
-use mathlib.Core.List.{List, [], _∷_, _++_}
+use mathlib.Core.List.{List, [], _∷_}
 use Prim.Native.Nat.{ℕ, _+_, _*_, _≤_, _<_}
 use native.Mathlib.Omega.{arith}
 use borrow.Author.Tests.{leb-true, leb-false}
@@ -10,10 +10,9 @@ use lib.Dec.{leb}
 use lib.ListN.{length}
 use lib.Seq.{sets}
 use Rattle.model.specs.declared.Refusal.{Refusal}
-use Rattle.model.specs.declared.Checked.{Checked}
 use Rattle.model.specs.declared.Checked.the-variants.{Fine, Bad}
 use Rattle.model.specs.Below.{tab}
-use Rattle.model.specs.Policy.{Policy, policy}
+use Rattle.model.specs.Policy.{Policy}
 use Rattle.model.specs.Refusal.{checked, refusal, values, refused, over}
 use Rattle.model.specs.Rules.{roomRules}
 use Rattle.model.proofs.Groups.{fine-not-bad, checked-fine, group-fine, group-bad, tell-fine, tell-bad, held-fine, held-bad}

@@ -1,6 +1,6 @@
 -- What a well-formed file says: its length, and that its numbers and cells, taken from where they stand, are those of the matrix or of the
 -- policy. So a file is that of one matrix, or of one policy. Assumes nothing.
-use mathlib.Core.Path.{_≡_, refl, sym, ap, ap₂, _∙_, subst}
+use mathlib.Core.Path.{_≡_, refl, sym, ap, ap₂, _∙_}
 use mathlib.Core.List.{List, [], _∷_, _++_, append-assoc}
 use Prim.Native.Nat.{ℕ, _+_, _*_, _/_, _%_, _≤_, _<_}
 use native.Mathlib.Nat.{mul-assoc, mul-le-mul}

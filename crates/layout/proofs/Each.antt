@@ -2,14 +2,13 @@
 use mathlib.Core.Path.{_≡_, refl, sym, ap, ap₂, _∙_}
 use mathlib.Core.List.{List, [], _∷_, _++_, append-assoc, append-nil}
 use mathlib.Core.Logic.{_⊎_, inl, inr}
-use Prim.Native.Nat.{ℕ, zero, suc, _+_, _*_, _≤_, _<_}
-use native.Mathlib.Numerals.{add-one}
+use Prim.Native.Nat.{ℕ, zero, suc, _+_, _*_, _<_}
 use native.Mathlib.Nat.{suc-mul, zero-mul, add-zero, add-suc}
 use native.Mathlib.Omega.{arith}
 use lib.ListN.{length, getD, length-append, List·getD-append}
 use lib.Seq.{getD-append-add, ext-getD}
 use Rattle.model.specs.Below.{tab}
-use Rattle.model.proofs.Below.{below-suc, length-tab, getD-tab, tab-same}
+use Rattle.model.proofs.Below.{below-suc, length-tab, getD-tab}
 use Rattle.model.proofs.Loops.{tab-snoc}
 use Rattle.layout.specs.Text.{each, recordText}
 

@@ -1,25 +1,24 @@
 -- The files of the two layouts are the well-formed files: from the layout to the file, from the file to the layout, and every start of
 -- one can be gone on with. So what a layout reaches decides, and gives the place. Assumes nothing.
-use mathlib.Core.Path.{_≡_, refl, sym, ap, ap₂, _∙_, subst}
+use mathlib.Core.Path.{_≡_, refl, sym, ap, _∙_, subst}
 use mathlib.Core.Bool.{cond}
 use mathlib.Core.List.{List, [], _∷_, _++_, append-assoc}
-use Prim.Native.Nat.{ℕ, _+_, _*_, _/_, _%_, _≤_, _<_}
+use Prim.Native.Nat.{ℕ, _+_, _*_, _≤_, _<_}
 use native.Mathlib.Decide.{decLt}
 use native.Mathlib.Nat.{mul-assoc}
 use native.Mathlib.Omega.{arith}
 use borrow.Author.Tests.{eq-eqb, ne-eqb}
 use lib.Dec.{eqb}
 use lib.ListN.{length, getD}
-use Rattle.model.specs.Matrix.{Laid}
-use Rattle.model.specs.Policy.{Policy, policy, domainOf, Valid}
+use Rattle.model.specs.Policy.{policy, domainOf}
 use Rattle.model.proofs.Rules.{Filled}
 use Rattle.layout.specs.Text.{MX, RW, PD, AS, TB, ZZ, each, one, two, line, recordText, matrixText, policyText}
-use Rattle.layout.specs.Files.{MatrixFile, PolicyFile, MatrixFormed, PolicyFormed, Malformed}
+use Rattle.layout.specs.Files.{MatrixFormed, PolicyFormed, Malformed}
 use Rattle.layout.specs.Layout.{Layout, end, reach, text, digit, number, numbers, records, sizes, close}
 use Rattle.layout.specs.Layout.{matrixLayout, policySizes, assigned, policyLayout}
 use Rattle.layout.proofs.Places.{Of, Live, reach-formed, reach-malformed}
-use Rattle.layout.proofs.Pieces.{Texts, texts-text, digit-in, digit-of, digit-live, number-in, number-of, number-live}
-use Rattle.layout.proofs.Rows.{texts-then, texts-as, texts-numbers, texts-records}
+use Rattle.layout.proofs.Pieces.{texts-text, digit-in, digit-of, digit-live, number-in, number-of, number-live}
+use Rattle.layout.proofs.Rows.{texts-numbers, texts-records}
 
 -- texts behind each other
 joined : (a b : List ℕ) (s s₁ t : List ℕ) → s ≡ a ++ s₁ → s₁ ≡ b ++ t → s ≡ a ++ (b ++ t)

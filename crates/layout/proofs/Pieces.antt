@@ -2,15 +2,14 @@
 -- can be gone on with. It is shown for bytes, digits and cells, and carried over to pieces in a row and to repeated ones. Assumes nothing.
 use mathlib.Core.Path.{_≡_, refl, sym, ap, ap₂, _∙_, subst}
 use mathlib.Core.Bool.{Bool, true, false, cond, _&&_}
-use mathlib.Core.List.{List, [], _∷_, _++_, append-assoc}
+use mathlib.Core.List.{List, [], _∷_, _++_}
 use Prim.Native.Nat.{ℕ, zero, suc, _+_, _-_, _*_, _/_, _%_, _≤_, _<_}
 use native.Mathlib.Decide.{decLt}
 use native.Mathlib.Omega.{arith}
-use borrow.Author.Tests.{eq-eqb, ne-eqb, le-leb, lt-ltb, leb-true, ltb-true, eqb-true}
+use borrow.Author.Tests.{eq-eqb, le-leb, lt-ltb, leb-true, ltb-true, eqb-true}
 use lib.Dec.{eqb, leb, ltb}
-use lib.ListN.{length}
-use Rattle.layout.specs.Text.{each, one, two, cellChar}
-use Rattle.layout.specs.Layout.{Layout, byte, digitOf, cellOf, text, times, digit, ten?, unit?, number, cells}
+use Rattle.layout.specs.Text.{one, two, cellChar}
+use Rattle.layout.specs.Layout.{Layout, byte, digitOf, cellOf, text, digit, ten?, unit?, number}
 use Rattle.layout.proofs.Places.{Of, Live}
 
 and-true : (a b : Bool) → (a && b) ≡ true → (a ≡ true) × (b ≡ true)

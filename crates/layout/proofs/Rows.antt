@@ -7,13 +7,13 @@ use native.Mathlib.Omega.{arith}
 use borrow.Author.Tests.{eq-eqb, ne-eqb, eqb-true, eqb-false}
 use lib.Arith.{digits-lt, digits-div, digits-mod}
 use lib.Dec.{eqb}
-use lib.ListN.{length, getD}
+use lib.ListN.{getD}
 use Rattle.model.specs.Below.{tab}
 use Rattle.model.proofs.Below.{length-tab, getD-tab, tab-same}
 use Rattle.model.proofs.Places.{spot}
 use Rattle.model.proofs.Rules.{Filled}
 use Rattle.layout.specs.Text.{each, two, cellChar, line, recordText}
-use Rattle.layout.specs.Layout.{Layout, text, times, number, cells, numbers, recordOf, records}
+use Rattle.layout.specs.Layout.{Layout, times, number, cells, numbers, recordOf, records}
 use Rattle.layout.proofs.Each.{each-same, each-one}
 use Rattle.layout.proofs.Places.{Of, Live}
 use Rattle.layout.proofs.Pieces.{Texts, texts-text, texts-cell, texts-number}

@@ -1,7 +1,7 @@
 -- The loop that numbers the classes: the entities in rising order, each compared with the smallest members found so far. Below u these
 -- are the members of the first d classes; so the first of them that is u's like has the number of u's class, and there is none
 -- exactly if u is the smallest of a new one, which then has the number d. Assumes nothing.
-use mathlib.Core.Path.{_≡_, refl, sym, ap, _∙_, subst}
+use mathlib.Core.Path.{_≡_, refl, sym, ap, _∙_}
 use mathlib.Core.Bool.{Bool}
 use mathlib.Core.List.{List}
 use Prim.Native.Nat.{ℕ, suc, _+_, _≤_, _<_}
@@ -13,7 +13,7 @@ use lib.ListN.{length, getD, set}
 use Rattle.model.specs.Below.{count, first}
 use Rattle.model.specs.Classes.{smallest, isSmallest, classes, classOf, memberOf}
 use Rattle.model.proofs.Tests.{eqb-of}
-use Rattle.model.proofs.Below.{first-is, first-none, first-same, first-le}
+use Rattle.model.proofs.Below.{first-is, first-none, first-same}
 use Rattle.model.proofs.Count.{count-le, count-past, count-true, count-false, count-mono}
 use Rattle.model.proofs.Classes.{Tests, smallest-below, smallest-in, smallest-is, smallest-under, class-same, class-hit, member-is, member-low}
 use Rattle.model.proofs.Loops.{filled, filled-none, filled-length, filled-at, filled-next}

@@ -1,6 +1,6 @@
 -- The exits of the two checks: a reader of a piece that fell short has found the place, and one that came to its end leaves the rest of
 -- the file to the next. Assumes nothing.
-use mathlib.Core.Path.{_≡_, sym, ap, _∙_, subst}
+use mathlib.Core.Path.{_≡_, sym, subst}
 use mathlib.Core.Bool.{cond}
 use mathlib.Core.List.{List, [], _∷_}
 use Prim.Native.Nat.{ℕ, _+_, _*_, _≤_, _<_}
@@ -8,8 +8,8 @@ use native.Mathlib.Omega.{arith}
 use lib.Dec.{eqb}
 use lib.ListN.{length, drop}
 use Rattle.layout.specs.Text.{MX, RW, PD, AS, TB}
-use Rattle.layout.specs.Layout.{Layout, end, reach, Stops, Piece, Value, Sizes, PolicySizes, text, number, numbers, records, sizes, close}
-use Rattle.layout.specs.Layout.{matrixLayout, policySizes, assigned, policyLayout, digitAt, numberAt}
+use Rattle.layout.specs.Layout.{Layout, end, reach, Stops, Piece, Value, Sizes, PolicySizes, text, number, numbers, records, close}
+use Rattle.layout.specs.Layout.{matrixLayout, policySizes, assigned, policyLayout}
 use Rattle.layout.proofs.Stops.{stop, on, piece-within, value-within, fell-short, came-whole}
 
 pub sized-inside : {s mark : List ℕ} {n k r : ℕ} → Sizes s r mark n k → r ≤ length s

@@ -1,7 +1,7 @@
 // The two files as they are read: the place where a file stops being one.
 ghost use mathlib.Core.Path.{_≡_};
 ghost use mathlib.Core.Bool.{cond};
-ghost use Prim.Native.Nat.{ℕ, _+_, _*_, _≤_};
+ghost use Prim.Native.Nat.{_+_, _*_, _≤_};
 ghost use lib.Dec.{eqb};
 ghost use lib.ListN.{length};
 ghost use Rattle.layout.specs.Layout.{reach, Piece, PolicySizes, numberAt, digitAt, matrixLayout, policyLayout, assigned};

@@ -1,6 +1,5 @@
 // The program: takes a matrix file from standard input, and no more than 33,098 bytes of it, and writes the answer to standard output.
 use files::Wrote;
-ghost use Rattle.io.specs.Counts.{Counts};
 
 fn main() {
     let mut input: [u8; 33098] = [0; 33098];

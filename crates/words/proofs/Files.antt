@@ -1,14 +1,14 @@
 -- What the four calls on files tell has room in their words: no file is longer than 33,230 bytes, so no length and no place is greater, and
 -- the numbers are within the limits. Assumes nothing.
-use mathlib.Core.Path.{_≡_, sym, ap, _∙_, subst}
+use mathlib.Core.Path.{sym, subst}
 use mathlib.Core.List.{List, [], _∷_, _++_}
-use Prim.Native.Nat.{ℕ, _+_, _*_, _^_, _≤_, _<_}
+use Prim.Native.Nat.{ℕ, _+_, _≤_}
 use native.Mathlib.Omega.{arith}
 use lib.ListN.{length}
 use Rattle.model.specs.Policy.{Policy}
-use Rattle.model.specs.Refusal.{checked, refusal, Told, refused}
+use Rattle.model.specs.Refusal.{refusal, Told, refused}
 use Rattle.model.specs.Rules.{sizeRules, matrixRules, assignmentRules, tableRules, roomRules}
-use Rattle.model.proofs.Groups.{Gives, gives-group, groups-fine}
+use Rattle.model.proofs.Groups.{gives-group, groups-fine}
 use Rattle.model.proofs.Places.{small}
 use Rattle.model.proofs.Rules.{Sized, sizes-fine}
 use Rattle.layout.specs.Text.{matrixText, policyText}

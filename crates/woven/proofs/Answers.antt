@@ -17,7 +17,7 @@ use Rattle.model.specs.Rules.{lowest, lowestRule, sizeRules, matrixRules, fullR
 use Rattle.model.proofs.Built.{built-few, built-valid}
 use Rattle.model.proofs.Groups.{fine-not-bad, group-fine, group-bad, gives-bad, told-fine, told-bad}
 use Rattle.model.proofs.Places.{Small, small}
-use Rattle.model.proofs.Rules.{lowest-some, sizes-pass, matrix-pass, room-pass, Whole, whole-fine, whole-full}
+use Rattle.model.proofs.Rules.{lowest-some, sizes-pass, matrix-pass, room-pass, whole-fine, whole-full}
 use Rattle.layout.specs.Text.{policyText}
 use Rattle.layout.specs.Files.{MatrixFile, PolicyFile, MatrixFormed, Malformed}
 use Rattle.layout.proofs.Contents.{matrix-short, policy-short}

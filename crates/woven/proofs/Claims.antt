@@ -2,21 +2,20 @@
 -- `reach` finds which; and no file is longer than 33,097 bytes, so that one byte more shows every fault. Assumes nothing.
 use mathlib.Core.Path.{_≡_, refl, sym, ap, _∙_, subst}
 use mathlib.Core.Logic.{_⊎_, inl, inr}
-use mathlib.Core.List.{List, [], _∷_, _++_}
-use Prim.Native.Nat.{ℕ, _*_, _≤_, _<_}
+use mathlib.Core.List.{List, [], _∷_}
+use Prim.Native.Nat.{ℕ, _≤_, _<_}
 use native.Mathlib.Decide.{decLt}
 use native.Mathlib.Omega.{arith}
 use borrow.Author.Tests.{lt-ltb, eq-eqb, ne-eqb}
 use lib.Dec.{T, eqb, ltb}
-use lib.ListN.{length, getD, take, drop}
-use Rattle.model.specs.declared.Refusal.{Refusal}
+use lib.ListN.{length, getD, take}
 use Rattle.model.specs.declared.Checked.{Checked}
 use Rattle.model.specs.declared.Checked.the-variants.{Fine, Bad}
 use Rattle.model.specs.Below.{all, any, count, first, tab}
 use Rattle.model.specs.Matrix.{cell}
 use Rattle.model.specs.Alike.{rows?, alike?}
 use Rattle.model.specs.Classes.{smallest, isSmallest, classes, classOf, memberOf}
-use Rattle.model.specs.Policy.{Policy, domainOf}
+use Rattle.model.specs.Policy.{domainOf}
 use Rattle.model.specs.Built.{tableOf, built}
 use Rattle.model.specs.Refusal.{checked, refusal, cellRefusal}
 use Rattle.model.specs.Rules.{lowest, lowestRule, matrixRules, fullRules, roomRules}
@@ -25,7 +24,7 @@ use Rattle.model.proofs.Places.{small}
 use Rattle.model.proofs.Groups.{checked-applies, told-fine, tell-fine, tell-bad, held-bad}
 use Rattle.model.proofs.Rules.{lowest-bad, matrix-fine, room-pass, room-fine, whole-pass}
 use Rattle.layout.specs.Text.{each, line, matrixText, policyText}
-use Rattle.layout.specs.Files.{MatrixFile, PolicyFile, MatrixFormed, PolicyFormed, Malformed}
+use Rattle.layout.specs.Files.{MatrixFile, PolicyFile, MatrixFormed, PolicyFormed}
 use Rattle.layout.specs.Layout.{reach, matrixLayout}
 use Rattle.layout.proofs.Places.{place-one}
 use Rattle.layout.proofs.Files.{matrix-formed, matrix-malformed}
@@ -42,7 +41,7 @@ use Rattle.claims.proofs.FilesWritten.{wrote-apart, written-one, file-written}
 use Rattle.woven.specs.Weave.{five, refusalText, answerText, Woven, formed, malformed, longest, Weaves}
 use Rattle.woven.specs.Claims.{WovenTotal, WovenUnique, WovenPolicy, WovenRefused, WovenOnly, WovenCalls, WovenCut, example, gaps, WovenExample}
 use Rattle.woven.specs.Claims.{WeaveWrites, WeaveKeeps, WeaveUnique, WeaveAlone}
-use Rattle.woven.proofs.Answers.{formed-short, whole-four, built-file, answer-built, answer-refused, four-at, four-shown}
+use Rattle.woven.proofs.Answers.{formed-short, whole-four, built-file, answer-built, answer-refused, four-at}
 use Rattle.woven.proofs.Answers.{built-stands, built-refused, read-file, read-refused}
 
 -- ---- the answers

@@ -1,7 +1,6 @@
 -- `alike::alike` meets its contract: a refusal is told as it was found; past the rules the matrix is whole and u and v are entities, and
 -- the comparison tells yes or no. Assumes nothing.
 use mathlib.Core.Path.{_≡_, sym, _∙_}
-use mathlib.Core.Bool.{true, false}
 use Rattle.model.specs.declared.Checked.the-variants.{Fine}
 use Rattle.model.specs.Matrix.{cell}
 use Rattle.model.specs.Alike.{alike?}

@@ -2,13 +2,11 @@
 -- local lists, and `write` gives the last refusal or writes the built policy (`Exits`). Assumes nothing.
 use mathlib.Core.Path.{_≡_, sym, _∙_}
 use mathlib.Core.List.{_++_}
-use native.Mathlib.Omega.{arith}
 use lib.ListN.{length}
 use Rattle.model.specs.declared.Checked.the-variants.{Fine}
 use Rattle.model.specs.Refusal.{checked}
 use Rattle.model.specs.Rules.{wholeRules, roomRules}
 use Rattle.model.proofs.Rules.{laid}
-use Rattle.classes.specs.Members.{Members}
 use Rattle.build.proofs.Exits.{early-bad, whole, room, numbers-long, members-in, wrote}
 use borrow.Author.Needs.{needs}
 use Rattle.build.proofs.build.Tie as tie

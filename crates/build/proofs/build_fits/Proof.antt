@@ -1,6 +1,5 @@
 -- `build::build_fits` meets its contract: the groups stand one after the other. Assumes nothing.
-use mathlib.Core.Path.{_≡_, sym, _∙_}
-use mathlib.Core.List.{_++_}
+use mathlib.Core.Path.{sym, _∙_}
 use Rattle.model.specs.Rules.{wholeRules, roomRules}
 use Rattle.model.proofs.Groups.{group-fine, group-bad}
 use borrow.Author.Needs.{needs}

@@ -1,12 +1,9 @@
 -- `build::write` meets its contract: room for the table is known before the first byte is written. Assumes nothing.
 use mathlib.Core.Path.{_≡_, sym, _∙_}
-use mathlib.Core.List.{List, [], _∷_}
-use Prim.Native.Nat.{ℕ, _*_, _/_, _%_, _≤_}
+use Prim.Native.Nat.{ℕ, _*_, _≤_}
 use native.Mathlib.Omega.{arith}
 use lib.ListN.{length}
-use Rattle.model.specs.declared.Checked.{Checked}
-use Rattle.model.specs.declared.Checked.the-variants.{Fine, Bad}
-use Rattle.model.specs.Below.{tab}
+use Rattle.model.specs.declared.Checked.the-variants.{Fine}
 use Rattle.model.specs.Matrix.{Cells}
 use Rattle.model.specs.Built.{tableOf}
 use Rattle.model.specs.Refusal.{checked}

@@ -1,7 +1,7 @@
 -- `conflicts::first_conflict` meets its contract. The invariant of each loop: the next cell stands at `cell`, and no cell before it is a conflict
 -- (`Clear`). After a row's last receiver comes the next right's first cell, and after the last right the next sender's: so at the end `cell`
 -- is the number of cells, and at the break it is the first conflict. Assumes nothing.
-use mathlib.Core.Path.{_≡_, refl, sym, _∙_}
+use mathlib.Core.Path.{refl, sym, _∙_}
 use Prim.Native.Nat.{ℕ, _-_, _≤_, _<_}
 use native.Mathlib.Omega.{arith}
 use lib.ListN.{length, getD}

@@ -1,6 +1,6 @@
 -- `files::read_policy` meets its contract: its exits are those of `Fills`, at the numbers that the file has. Assumes nothing.
 use mathlib.Core.Path.{_≡_, sym, _∙_}
-use Prim.Native.Nat.{ℕ, _*_, _<_}
+use Prim.Native.Nat.{_*_, _<_}
 use native.Mathlib.Omega.{arith}
 use lib.ListN.{length}
 use Rattle.model.specs.declared.Checked.the-variants.{Fine}

@@ -4,7 +4,7 @@ use mathlib.Core.Path.{_≡_, sym, _∙_}
 use Rattle.model.specs.declared.Checked.the-variants.{Fine}
 use Rattle.model.specs.Policy.{Policy, policy}
 use Rattle.model.specs.Refusal.{checked}
-use Rattle.model.specs.Rules.{sizeRules, matrixRules, assignmentRules}
+use Rattle.model.specs.Rules.{sizeRules, matrixRules}
 use Rattle.model.proofs.Rules.{Sized, sizes-fine}
 use Rattle.judge.proofs.Exits.{sizes-bad, matrix-bad, assignment-bad, table-decides}
 use borrow.Author.Needs.{needs}

@@ -1,7 +1,7 @@
 -- `lines::same_columns` meets its contract. The invariant: in the first i lines the two cells are the same. Assumes nothing.
 use mathlib.Core.Path.{_≡_, sym, ap, _∙_}
 use mathlib.Core.Bool.{true}
-use Prim.Native.Nat.{ℕ, _-_, _*_, _≤_, _<_}
+use Prim.Native.Nat.{ℕ, _-_, _*_, _≤_}
 use native.Mathlib.Omega.{arith}
 use Rattle.model.proofs.Places.{small}
 use Rattle.lines.specs.Lines.{columns?}

@@ -1,7 +1,7 @@
 -- `loom::weave_in` meets its contract: the read over a buffer with room for every matrix is refused with 12 alone, and then the line is put down;
 -- else the matrix stands in the buffer, and the answer to it is put down (`Answers`). Assumes nothing.
 use mathlib.Core.Path.{refl}
-use Prim.Native.Nat.{ℕ, _*_}
+use Prim.Native.Nat.{_*_}
 use native.Mathlib.Omega.{arith}
 use lib.ListN.{take}
 use Rattle.model.proofs.Places.{Small, small}

@@ -1,8 +1,7 @@
 -- `places::matrix_place` meets its contract: each exit is one of `Places`, at the numbers that the first line has. Assumes nothing.
-use mathlib.Core.Path.{_≡_, sym, _∙_, subst}
-use Prim.Native.Nat.{ℕ, _+_, _*_, _≤_}
+use mathlib.Core.Path.{sym, subst}
+use Prim.Native.Nat.{ℕ}
 use native.Mathlib.Omega.{arith}
-use lib.ListN.{length}
 use Rattle.layout.specs.Text.{MX}
 use Rattle.layout.specs.Layout.{Sizes, digitAt}
 use Rattle.layout.proofs.Stops.{piece-inside}

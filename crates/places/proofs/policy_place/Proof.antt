@@ -1,8 +1,7 @@
 -- `places::policy_place` meets its contract: each exit is one of `Places`, at the numbers that the first line has. Assumes nothing.
-use mathlib.Core.Path.{_≡_, refl, sym, _∙_, subst}
-use Prim.Native.Nat.{ℕ, _+_, _*_, _≤_}
+use mathlib.Core.Path.{refl, sym, subst}
+use Prim.Native.Nat.{ℕ}
 use native.Mathlib.Omega.{arith}
-use lib.ListN.{length}
 use Rattle.layout.specs.Layout.{PolicySizes, digitAt, numberAt}
 use Rattle.layout.proofs.Stops.{piece-inside}
 use Rattle.layout.proofs.Contents.{Short, short}

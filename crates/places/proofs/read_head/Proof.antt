@@ -1,5 +1,5 @@
 -- `places::read_head` meets its contract: each exit is one of `Places`. Assumes nothing.
-use mathlib.Core.Path.{_≡_, sym, ap, _∙_, subst}
+use mathlib.Core.Path.{ap, _∙_, subst}
 use mathlib.Core.Bool.{cond}
 use Prim.Native.Nat.{ℕ}
 use native.Mathlib.Omega.{arith}

@@ -1,7 +1,6 @@
 -- `soroluzko::weave_bytes` meets its contract: the room for every answer is known before anything is written, and then the answer is put down.
 -- Assumes nothing.
 use mathlib.Core.Path.{_≡_, sym, _∙_}
-use native.Mathlib.Omega.{arith}
 use lib.ListN.{length}
 use Rattle.model.specs.declared.Checked.the-variants.{Fine}
 use Rattle.model.specs.Refusal.{checked}

@@ -1,6 +1,6 @@
 -- `tables::put_table` meets its contract. The invariant of each loop: `to` is the place of the cell that is next, and the table is filled
 -- up to there (`Grown`, since a loop inside another begins with a table that is filled in part). Assumes nothing.
-use mathlib.Core.Path.{_≡_, refl, sym, ap, _∙_}
+use mathlib.Core.Path.{_≡_, refl, ap, _∙_}
 use Prim.Native.Nat.{ℕ, _-_, _*_, _≤_, _<_}
 use native.Mathlib.Omega.{arith}
 use lib.ListN.{length}
