@@ -39,17 +39,17 @@ fn judges() {
 }
 
 fn limits() {
-    limits_shown(b"P15 build, n 64, k 8: ", 64, 8);
-    limits_shown(b"P15 build, n 65, k 1: ", 65, 1);
-    limits_shown(b"P15 build, n 1, k 0: ", 1, 0);
-    limits_shown(b"P15 build, n 1, k 9: ", 1, 9);
+    limits_shown(64, 8);
+    limits_shown(65, 1);
+    limits_shown(1, 0);
+    limits_shown(1, 9);
 }
 
 fn comparisons() {
-    alike_shown(b"P3 alike 0, 1: ", 2, 1, b"0110");
-    alike_shown(b"P6 alike 0, 1: ", 3, 1, b"001001000");
-    alike_shown(b"P7 alike 0, 1: ", 3, 1, b"000000010");
-    alike_shown(b"P10 alike 0, 2: ", 3, 2, b"1*******0");
+    alike_shown(b"P3", 2, 1, b"0110");
+    alike_shown(b"P6", 3, 1, b"001001000");
+    alike_shown(b"P7", 3, 1, b"000000010");
+    alike_shown(b"P10", 3, 2, b"1*******0");
 }
 
 // A build over buffers of 8 and of 16 bytes.
@@ -64,12 +64,14 @@ fn build_shown(name: &[u8], n: usize, k: usize, text: &[u8]) {
     show_left(&assignment, &table);
 }
 
-// A build of a matrix without a grant, as large as the sizes say where they are within the limits.
-fn limits_shown(name: &[u8], n: usize, k: usize) {
+// P15: a build of a matrix without a grant, as large as the sizes say where they are within the limits.
+fn limits_shown(n: usize, k: usize) {
     let cells = [0u8; 32768];
     let mut assignment = [9u8; 65];
     let mut table = [9u8; 9];
-    say(name);
+    show_count(b"P15 build, n ", n);
+    show_count(b", k ", k);
+    say(b": ");
     let built = build::build(n, k, &cells, &mut assignment, &mut table);
     show_built(built);
     show_left(&assignment, &table);
@@ -130,6 +132,8 @@ fn alike_shown(name: &[u8], n: usize, v: usize, text: &[u8]) {
     let mut cells = [0u8; 16];
     let size = read_cells(text, &mut cells);
     say(name);
+    show_count(b" alike 0, ", v);
+    say(b": ");
     let compared = alike::alike(n, 1, 0, v, &cells[..size]);
     show_compared(compared);
     say(b"\n");
