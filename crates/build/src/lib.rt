@@ -7,7 +7,6 @@ ghost use Prim.Native.Nat.{_*_, _≤_};
 ghost use lib.ListN.{length};
 ghost use Rattle.model.specs.Below.{tab};
 ghost use Rattle.model.specs.Matrix.{cell, Laid};
-ghost use Rattle.model.specs.Classes.{classes};
 ghost use Rattle.model.specs.Built.{tableOf};
 ghost use Rattle.model.specs.Refusal.{checked, tell, held};
 ghost use Rattle.model.specs.Rules.{wholeRules, roomRules};

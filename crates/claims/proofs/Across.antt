@@ -8,7 +8,7 @@ use native.Mathlib.Omega.{arith}
 use lib.ListN.{getD}
 use Rattle.model.specs.declared.Checked.the-variants.{Fine}
 use Rattle.model.specs.Matrix.{cell, Full}
-use Rattle.model.specs.Policy.{Policy, domainOf, answer, Agrees}
+use Rattle.model.specs.Policy.{Policy, written, domainOf, answer, Agrees}
 use Rattle.model.specs.Refusal.{checked}
 use Rattle.model.specs.Rules.{wholeRules, pairRules}
 use Rattle.model.proofs.Built.{built-few, built-cell, built-alike, built-valid, built-enforces, built-together, built-fewest}
@@ -25,12 +25,11 @@ use Rattle.judge.specs.declared.Judged.the-variants.{Enforces}
 use Rattle.judge.specs.Judge.{Judges}
 use Rattle.judge.proofs.Exits.{judgeable}
 use Rattle.claims.specs.Ask.{Serves}
-use Rattle.claims.specs.Build.{written}
 use Rattle.claims.specs.Judge.{Judgable}
 use Rattle.claims.specs.Across.{BuiltAccepted, BuiltAnswers, BuiltShares, AlikeShares, AcceptedFewest}
 use Rattle.claims.proofs.Ask.{ask-grants, ask-serves}
 use Rattle.claims.proofs.Alike.{alike-answers}
-use Rattle.claims.proofs.Build.{domains-told, whole-built, policy-written, byte-written}
+use Rattle.build.proofs.Written.{domains-told, whole-built, policy-written, byte-written}
 use Rattle.claims.proofs.Judge.{judge-accepts, judge-serves}
 
 -- of a build that answered d and left s′ and t′: the matrix is full, and what was written is the built policy

@@ -14,13 +14,12 @@ use Rattle.model.specs.Rules.{wholeRules, pairRules}
 use Rattle.model.proofs.Tests.{true-of, false-of}
 use Rattle.model.proofs.Alike.{alike-sound, alike-complete}
 use Rattle.model.proofs.Groups.{values-refused, tell-fine, told-fine, group-fine, groups-fine}
-use Rattle.model.proofs.Rules.{pair-fine, pair-pass, whole-pass}
+use Rattle.model.proofs.Rules.{pair-fine, pair-pass, whole-pass, whole-of}
 use Rattle.alike.specs.declared.Compared.{Compared}
 use Rattle.alike.specs.declared.Compared.the-variants.{Yes, No, Refused}
 use Rattle.alike.specs.Compare.{alikeRules, alikeTold, comparedTold}
 use Rattle.claims.specs.Alike.{AlikeAnswers, AlikeServes, AlikeUnique}
 use Rattle.claims.proofs.Ask.{one-nought}
-use Rattle.claims.proofs.Build.{whole-of}
 
 -- what is told determines the answer
 told-apart : (r q : Compared) → comparedTold r ≡ comparedTold q → r ≡ q

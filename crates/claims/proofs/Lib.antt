@@ -4,5 +4,3 @@ pub mod Alike
 pub mod Judge
 pub mod Across
 pub mod Patterns
-pub mod Files
-pub mod FilesWritten

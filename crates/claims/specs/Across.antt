@@ -5,7 +5,7 @@ use mathlib.Core.List.{List}
 use Prim.Native.Nat.{ℕ, _≤_, _<_}
 use lib.ListN.{getD}
 use Rattle.model.specs.Matrix.{cell}
-use Rattle.model.specs.Policy.{Policy, used, Together}
+use Rattle.model.specs.Policy.{Policy, written, used, Together}
 use Rattle.ask.specs.declared.Asked.{Asked}
 use Rattle.ask.specs.declared.Asked.the-variants.{Grant, Deny}
 use Rattle.ask.specs.Ask.{Answers}
@@ -17,7 +17,6 @@ use Rattle.build.specs.Build.{Builds}
 use Rattle.judge.specs.declared.Judged.{Judged}
 use Rattle.judge.specs.declared.Judged.the-variants.{Enforces}
 use Rattle.judge.specs.Judge.{Judges}
-use Rattle.claims.specs.Build.{written}
 
 -- demand 2: what build wrote, judge accepts
 abbrev pub BuiltAccepted : Type 0

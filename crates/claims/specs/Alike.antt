@@ -4,13 +4,12 @@ use mathlib.Core.Logic.{_↔_}
 use mathlib.Core.List.{List}
 use Prim.Native.Nat.{ℕ, _<_}
 use Rattle.model.specs.declared.Checked.the-variants.{Fine}
-use Rattle.model.specs.Matrix.{cell}
+use Rattle.model.specs.Matrix.{cell, Good}
 use Rattle.model.specs.Alike.{Alike}
 use Rattle.model.specs.Refusal.{checked}
 use Rattle.alike.specs.declared.Compared.{Compared}
 use Rattle.alike.specs.declared.Compared.the-variants.{Yes, No}
 use Rattle.alike.specs.Compare.{alikeRules, Compares}
-use Rattle.claims.specs.Build.{Good}
 
 -- yes exactly if Definition 2.11 holds, no exactly if it does not, where no refusal applies
 abbrev pub AlikeAnswers : Type 0

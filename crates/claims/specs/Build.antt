@@ -1,23 +1,14 @@
 -- What is claimed of the build, over any answer and buffers that meet its promise (01, "The calls"). Assumes nothing.
 use mathlib.Core.Path.{_≡_}
 use mathlib.Core.List.{List}
-use Prim.Native.Nat.{ℕ, _*_, _≤_, _<_}
-use lib.ListN.{length, getD, take, drop}
+use Prim.Native.Nat.{ℕ, _*_, _≤_}
+use lib.ListN.{length, drop}
 use Rattle.model.specs.declared.Refusal.{Refusal}
-use Rattle.model.specs.Matrix.{Laid}
-use Rattle.model.specs.Policy.{Policy, policy}
+use Rattle.model.specs.Matrix.{Good}
+use Rattle.model.specs.Policy.{written}
 use Rattle.build.specs.declared.Built.{Built}
 use Rattle.build.specs.declared.Built.the-variants.{Domains, Refused}
 use Rattle.build.specs.Build.{builtFrom, tableSize, Builds}
-
--- m holds a full matrix within the limits
-pub record Good (n k : ℕ) (m : List ℕ) : Type 0 where
-  pub laid : Laid n k m
-  pub full : (i : ℕ) → i < length m → getD m i 0 < 2
-
--- the policy that stands in the first bytes of the two buffers
-abbrev pub written : ℕ → ℕ → ℕ → List ℕ → List ℕ → Policy
-written n k d s t = policy d (take n s) (take (d * k * d) t)
 
 -- demand 2: what is written is the built policy, and later bytes stay
 abbrev pub BuildWrites : Type 0

@@ -11,7 +11,7 @@ use lib.ListN.{length, getD}
 use Rattle.model.specs.declared.Refusal.{Refusal}
 use Rattle.model.specs.declared.Checked.the-variants.{Fine, Bad}
 use Rattle.model.specs.Below.{any, first}
-use Rattle.model.specs.Matrix.{cellAt, cell, Laid, Full}
+use Rattle.model.specs.Matrix.{cellAt, cell, Laid, Good, Full}
 use Rattle.model.specs.Refusal.{Rule, checked, refusal, cellRefusal}
 use Rattle.model.specs.Rules.{lowest, lowestRule, lengthRule, listRules, sizeRules, matrixRules, fullRules, assignmentRules}
 use Rattle.model.specs.Rules.{wholeRules, tableRules, requestRules, pairRules, roomRules}
@@ -223,6 +223,12 @@ whole-pass n k m w =
 
 pub laid : {n k : ℕ} {m : List ℕ} → Whole n k m → Laid n k m
 laid w = record { entities = w .sized .entities; right = w .sized .right; rights = w .sized .rights; size = w .cells .long }
+
+pub whole-of : {n k : ℕ} {m : List ℕ} → Good n k m → Whole n k m
+whole-of g = record {
+  sized = record { entities = g .laid .entities; right = g .laid .right; rights = g .laid .rights; domains = omega arith };
+  cells = record { long = g .laid .size; below = g .full };
+}
 
 -- so no cell is unlogged
 pub whole-full : {n k : ℕ} {m : List ℕ} → Whole n k m → Full n k (cell k n m)

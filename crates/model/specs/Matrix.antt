@@ -23,6 +23,11 @@ pub record Laid (n k : ℕ) (m : List ℕ) : Type 0 where
   pub rights : k ≤ 8
   pub size : length m ≡ n * k * n
 
+-- m holds a full matrix within the limits
+pub record Good (n k : ℕ) (m : List ℕ) : Type 0 where
+  pub laid : Laid n k m
+  pub full : (i : ℕ) → i < length m → getD m i 0 < 2
+
 -- a sender's row: its k·n cells, where they stand in the matrix
 abbrev pub rowOf : ℕ → ℕ → List ℕ → ℕ → List ℕ
 rowOf n k m u = take (k * n) (drop (u * (k * n)) m)

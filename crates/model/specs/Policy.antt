@@ -2,7 +2,7 @@
 use mathlib.Core.Path.{_≡_}
 use mathlib.Core.List.{List}
 use Prim.Native.Nat.{ℕ, _*_, _≤_, _<_}
-use lib.ListN.{length, getD}
+use lib.ListN.{length, getD, take}
 use lib.Dec.{eqb}
 use Rattle.model.specs.Below.{any, count}
 use Rattle.model.specs.Matrix.{Cells, cell}
@@ -15,6 +15,10 @@ pub record Policy : Type 0 where
 
 abbrev pub policy : ℕ → List ℕ → List ℕ → Policy
 policy d s t = record { domains = d; assignment = s; table = t }
+
+-- the policy that stands in the first bytes of two buffers
+abbrev pub written : ℕ → ℕ → ℕ → List ℕ → List ℕ → Policy
+written n k d s t = policy d (take n s) (take (d * k * d) t)
 
 -- the domain of u
 unfoldable pub domainOf : Policy → ℕ → ℕ

@@ -10,8 +10,8 @@ ghost use Rattle.writable.specs.Rules.{matrixWriteRules, policyWriteRules};
 ghost use Rattle.build.specs.Build.{assignmentLeft, tableLeft};
 ghost use Rattle.woven.specs.Weave.{Weaves};
 ghost use Rattle.words.specs.Calls.{askWord, alikeWord, buildWord, judgeWord};
-ghost use Rattle.words.specs.Files.{MatrixReadWord, PolicyReadWord, WrittenWord};
-ghost use Rattle.words.specs.Weave.{WeaveWord};
+ghost use Rattle.filewords.specs.Files.{MatrixReadWord, PolicyReadWord, WrittenWord};
+ghost use Rattle.filewords.specs.Weave.{WeaveWord};
 
 // The length of the answer to an input; the first bytes of `output` become the answer, later bytes stay: the file of the built policy where
 // the input is the file of a full matrix, and else the line NO with the number and the place. Refused, before anything is written: 11 where
@@ -87,7 +87,7 @@ pub extern "C" fn soroluzko_judge(
 pub extern "C" fn soroluzko_read_matrix(file: &[u8], matrix: &mut [u8]) -> u64
     ensures { λ w. ⌜ MatrixReadWord (now (file .entry)) (now (matrix .entry)) w (now (matrix .exit)) ⌝ }
 {
-    codes::read_matrix_word(files::read_matrix(file, matrix))
+    filecodes::read_matrix_word(files::read_matrix(file, matrix))
 }
 
 // Reading a policy file, for C: `files::read_policy` with its answer as a word.
@@ -97,7 +97,7 @@ pub extern "C" fn soroluzko_read_policy(file: &[u8], assignment: &mut [u8], tabl
         PolicyReadWord (now (file .entry)) (now (assignment .entry)) (now (table .entry)) w (now (assignment .exit)) (now (table .exit))
         ⌝ }
 {
-    codes::read_policy_word(files::read_policy(file, assignment, table))
+    filecodes::read_policy_word(files::read_policy(file, assignment, table))
 }
 
 // Writing a matrix file, for C: `files::write_matrix` with its answer as a word.
@@ -108,7 +108,7 @@ pub extern "C" fn soroluzko_write_matrix(n: usize, k: usize, matrix: &[u8], file
         (now (file .entry)) w (now (file .exit))
         ⌝ }
 {
-    codes::wrote_word(files::write_matrix(n, k, matrix, file))
+    filecodes::wrote_word(files::write_matrix(n, k, matrix, file))
 }
 
 // Writing a policy file, for C: `files::write_policy` with its answer as a word.
@@ -126,7 +126,7 @@ pub extern "C" fn soroluzko_write_policy(
         (policyText n k (policy d (now (assignment .entry)) (now (table .entry)))) (now (file .entry)) w (now (file .exit))
         ⌝ }
 {
-    codes::wrote_word(files::write_policy(n, k, d, assignment, table, file))
+    filecodes::wrote_word(files::write_policy(n, k, d, assignment, table, file))
 }
 
 // The weave, for C: `weave_bytes` with its answer as a word.
@@ -134,5 +134,5 @@ pub extern "C" fn soroluzko_write_policy(
 pub extern "C" fn soroluzko_weave(input: &[u8], output: &mut [u8]) -> u64
     ensures { λ w. ⌜ WeaveWord (now (input .entry)) (now (output .entry)) w (now (output .exit)) ⌝ }
 {
-    codes::wrote_word(weave_bytes(input, output))
+    filecodes::wrote_word(weave_bytes(input, output))
 }

@@ -7,16 +7,15 @@ use native.Mathlib.Omega.{arith}
 use borrow.Author.Tests.{ltb-true, eq-eqb, ne-eqb}
 use lib.Dec.{eqb, ltb}
 use lib.ListN.{length, getD}
-use Rattle.model.specs.declared.Refusal.{Refusal}
 use Rattle.model.specs.declared.Checked.{Checked}
 use Rattle.model.specs.declared.Checked.the-variants.{Fine, Bad}
 use Rattle.model.specs.Matrix.{cell}
 use Rattle.model.specs.Alike.{alike?}
 use Rattle.model.specs.Policy.{Policy, answer}
-use Rattle.model.specs.Refusal.{Rule, checked, Told, values, refused, tell}
+use Rattle.model.specs.Refusal.{checked, Told, values, refused, tell}
 use Rattle.model.specs.Rules.{sizeRules, wholeRules, matrixRules}
 use Rattle.model.proofs.Built.{built-few}
-use Rattle.model.proofs.Groups.{Gives, gives-bad, groups-fine}
+use Rattle.model.proofs.Groups.{gives-bad, groups-fine}
 use Rattle.model.proofs.Places.{small}
 use Rattle.model.proofs.Rules.{whole-fine, matrix-fine}
 use Rattle.ask.specs.Ask.{askRules, granted, askTold}
@@ -25,18 +24,10 @@ use Rattle.build.specs.Build.{builtFrom, buildRules, buildTold}
 use Rattle.conflicts.specs.Conflict.{conflict}
 use Rattle.judge.specs.Judge.{judgeRules, verdict, judgeTold}
 use Rattle.judge.proofs.Exits.{judgeable}
-use Rattle.words.specs.Word.{fields, word, unword, Carried, Fit, none, more, Held}
-use Rattle.words.specs.Calls.{judgeFields, JudgeHeld, enforcing, conflicting, refusing, AskKept, AlikeKept, BuildKept, JudgeKept}
-use Rattle.words.proofs.Word.{word-kept, word-low}
+use Rattle.word.specs.Word.{fields, word, unword, Carried, none, more, Held, JudgeHeld, enforcing, conflicting, refusing}
+use Rattle.words.specs.Calls.{judgeFields, AskKept, AlikeKept, BuildKept, JudgeKept}
+use Rattle.word.proofs.Word.{word-kept, word-low, told-held}
 use Rattle.words.proofs.Carried.{ask-carried, alike-carried, build-carried, judge-carried}
-
--- what is told has room where the values have, and where each refusal has
-pub told-held : (ws : List ℕ) (rs : List Rule) (vs : List ℕ) → Gives Carried rs → (checked rs ≡ Fine → Fit ws vs) → Held ws (tell (checked rs) vs)
-told-held ws rs vs g f = go (checked rs) refl
-  where
-    go : (c : Checked) → checked rs ≡ c → Held ws (tell c vs)
-    go Fine e = f e
-    go (Bad r) e = gives-bad Carried rs g r e
 
 bit : (b : Bool) → cond b 1 0 < 2 ^ 1
 bit true = omega arith
@@ -105,16 +96,6 @@ judge-held n k m P = go (checked (judgeRules n k m P)) refl (ltb i (n * k * n)) 
         conflicting i (getD m i 0) (omega (arith, s .cells)) (omega (arith, logged e i (omega (arith, J .matrix .size))))
     go Fine e false f = enforcing (P .domains) (omega (arith, judgeable n k m P e .few))
     go (Bad r) e b f = refusing r (gives-bad Carried (judgeRules n k m P) (judge-carried n k m P) r e)
-
--- so the numbers that the code puts together are small
-pub domains-held : {d : ℕ} → JudgeHeld (values (0 ∷ d ∷ [])) → d < 2 ^ 16
-domains-held (enforcing d h) = h
-
-pub conflict-held : {i x : ℕ} → JudgeHeld (values (1 ∷ i ∷ x ∷ [])) → (i < 2 ^ 16) × (x < 2 ^ 8)
-conflict-held (conflicting i x h l) = (h, l)
-
-pub refusal-held : {r : Refusal} → JudgeHeld (refused r) → Carried r
-refusal-held (refusing r h) = h
 
 pub judge-kept : JudgeKept
 judge-kept n k m P = let h = judge-held n k m P in (held-kept h, held-low h)

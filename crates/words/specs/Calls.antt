@@ -4,14 +4,12 @@ use mathlib.Core.Bool.{cond}
 use mathlib.Core.List.{List, [], _∷_}
 use Prim.Native.Nat.{ℕ, _/_, _%_, _^_, _<_}
 use lib.Dec.{eqb}
-use Rattle.model.specs.declared.Refusal.{Refusal}
 use Rattle.model.specs.Policy.{Policy}
-use Rattle.model.specs.Refusal.{Told, values, refused}
 use Rattle.ask.specs.Ask.{askTold}
 use Rattle.alike.specs.Compare.{alikeTold}
 use Rattle.build.specs.Build.{buildTold}
 use Rattle.judge.specs.Judge.{judgeTold}
-use Rattle.words.specs.Word.{word, unword, Carried, Kept}
+use Rattle.word.specs.Word.{word, unword, Kept}
 
 -- ask: bit 8 is the grant
 abbrev pub askWord : ℕ → ℕ → ℕ → ℕ → ℕ → Policy → ℕ
@@ -32,12 +30,6 @@ judgeWord n k m P = word (8 ∷ 16 ∷ 8 ∷ []) (judgeTold n k m P)
 -- what fields a word of the judge has, by its bits 8 to 15
 unfoldable pub judgeFields : ℕ → List ℕ
 judgeFields w = cond (eqb (w / 256 % 256) 0) (8 ∷ 16 ∷ []) (8 ∷ 16 ∷ 8 ∷ [])
-
--- what a word of the judge can carry
-pub data JudgeHeld : Told → Type 0 where
-  enforcing : (d : ℕ) → d < 2 ^ 16 → JudgeHeld (values (0 ∷ d ∷ []))
-  conflicting : (i x : ℕ) → i < 2 ^ 16 → x < 2 ^ 8 → JudgeHeld (values (1 ∷ i ∷ x ∷ []))
-  refusing : (r : Refusal) → Carried r → JudgeHeld (refused r)
 
 -- nothing is lost, and the upper bits are 0
 abbrev pub AskKept : Type 0

@@ -1,1 +1,1 @@
-// The words that the boundary to C answers with. The definitions stand in specs/, their laws in proofs/; this crate has no code.
+// The words of the calls on matrices and policies. The definitions stand in specs/, their laws in proofs/; this crate has no code.

@@ -11,7 +11,7 @@ use Rattle.model.specs.declared.Refusal.{Refusal}
 use Rattle.model.specs.declared.Checked.{Checked}
 use Rattle.model.specs.declared.Checked.the-variants.{Fine, Bad}
 use Rattle.model.specs.Matrix.{cell}
-use Rattle.model.specs.Policy.{Policy}
+use Rattle.model.specs.Policy.{Policy, written}
 use Rattle.model.specs.Refusal.{Rule, checked, refusal, cellRefusal, refused, over}
 use Rattle.model.specs.Rules.{lowest, lowestRule, sizeRules, matrixRules, fullRules, wholeRules, roomRules}
 use Rattle.model.proofs.Built.{built-few, built-valid}
@@ -28,9 +28,8 @@ use Rattle.build.specs.Build.{builtFrom, tableSize, buildRules, buildTold, Buil
 use Rattle.files.specs.declared.ReadMatrix.{ReadMatrix}
 use Rattle.files.specs.declared.ReadMatrix.the-variants.{Matrix, Refused as MatrixRefused}
 use Rattle.files.specs.Read.{readMatrixTold, matrixRoom, MatrixRead, formed, malformed}
-use Rattle.claims.specs.Build.{written}
-use Rattle.claims.proofs.Build.{policy-written}
-use Rattle.claims.proofs.Files.{matrix-filled}
+use Rattle.build.proofs.Written.{policy-written}
+use Rattle.filed.proofs.Read.{matrix-filled}
 use Rattle.woven.specs.Weave.{refusalText, answerText, longest, Woven}
 
 -- the longest file of a matrix

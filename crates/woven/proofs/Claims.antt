@@ -15,14 +15,14 @@ use Rattle.model.specs.Below.{all, any, count, first, tab}
 use Rattle.model.specs.Matrix.{cell}
 use Rattle.model.specs.Alike.{rows?, alike?}
 use Rattle.model.specs.Classes.{smallest, isSmallest, classes, classOf, memberOf}
-use Rattle.model.specs.Policy.{domainOf}
+use Rattle.model.specs.Policy.{written, domainOf}
 use Rattle.model.specs.Built.{tableOf, built}
 use Rattle.model.specs.Refusal.{checked, refusal, cellRefusal}
 use Rattle.model.specs.Rules.{lowest, lowestRule, matrixRules, fullRules, roomRules}
 use Rattle.model.proofs.Below.{first-is}
 use Rattle.model.proofs.Places.{small}
 use Rattle.model.proofs.Groups.{checked-applies, told-fine, tell-fine, tell-bad, held-bad}
-use Rattle.model.proofs.Rules.{lowest-bad, matrix-fine, room-pass, room-fine, whole-pass}
+use Rattle.model.proofs.Rules.{lowest-bad, matrix-fine, room-pass, room-fine, whole-pass, whole-of}
 use Rattle.layout.specs.Text.{each, line, matrixText, policyText}
 use Rattle.layout.specs.Files.{MatrixFile, PolicyFile, MatrixFormed, PolicyFormed}
 use Rattle.layout.specs.Layout.{reach, matrixLayout}
@@ -34,10 +34,8 @@ use Rattle.build.specs.Build.{builtFrom}
 use Rattle.files.specs.declared.Wrote.{Wrote}
 use Rattle.files.specs.declared.Wrote.the-variants.{Length, Refused}
 use Rattle.files.specs.Write.{wroteTold, Written}
-use Rattle.claims.specs.Build.{written}
-use Rattle.claims.proofs.Build.{whole-of}
-use Rattle.claims.proofs.Files.{first-bytes, later-bytes, held-over}
-use Rattle.claims.proofs.FilesWritten.{wrote-apart, written-one, file-written}
+use Rattle.filed.proofs.Read.{first-bytes, later-bytes, held-over}
+use Rattle.filed.proofs.Write.{wrote-apart, written-one, file-written}
 use Rattle.woven.specs.Weave.{five, refusalText, answerText, Woven, formed, malformed, longest, Weaves}
 use Rattle.woven.specs.Claims.{WovenTotal, WovenUnique, WovenPolicy, WovenRefused, WovenOnly, WovenCalls, WovenCut, example, gaps, WovenExample}
 use Rattle.woven.specs.Claims.{WeaveWrites, WeaveKeeps, WeaveUnique, WeaveAlone}

@@ -5,6 +5,8 @@ use mathlib.Core.List.{List, [], _∷_, _++_}
 use Prim.Native.Nat.{ℕ, _*_, _≤_, _<_}
 use lib.ListN.{length, getD, take, drop}
 use Rattle.model.specs.declared.Refusal.{Refusal}
+use Rattle.model.specs.Matrix.{Good}
+use Rattle.model.specs.Policy.{written}
 use Rattle.model.specs.Refusal.{refusal, cellRefusal}
 use Rattle.layout.specs.Text.{line}
 use Rattle.layout.specs.Files.{MatrixFile, PolicyFile, MatrixFormed, PolicyFormed, Malformed}
@@ -13,8 +15,7 @@ use Rattle.build.specs.Build.{builtFrom, Builds}
 use Rattle.files.specs.declared.ReadMatrix.the-variants.{Matrix, Refused as MatrixRefused}
 use Rattle.files.specs.declared.Wrote.{Wrote}
 use Rattle.files.specs.declared.Wrote.the-variants.{Length, Refused}
-use Rattle.claims.specs.Build.{Good, written}
-use Rattle.claims.specs.Files.{ReadsMatrix, WritesPolicy}
+use Rattle.filed.specs.Files.{ReadsMatrix, WritesPolicy}
 use Rattle.woven.specs.Weave.{five, refusalText, Woven, longest, Weaves}
 
 -- ---- the answers

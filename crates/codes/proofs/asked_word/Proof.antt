@@ -2,7 +2,7 @@
 use mathlib.Core.Path.{sym, ap, _∙_, subst}
 use mathlib.Core.List.{[], _∷_}
 use Rattle.ask.specs.Ask.{askedTold}
-use Rattle.words.specs.Word.{fields, word, Held}
+use Rattle.word.specs.Word.{fields, word, Held}
 use borrow.Author.Needs.{needs}
 use Rattle.codes.proofs.asked_word.Statement.{statement}
 use Rattle.codes.proofs.asked_word.Tie as tie

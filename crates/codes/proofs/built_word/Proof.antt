@@ -4,8 +4,8 @@ use mathlib.Core.List.{[], _∷_}
 use Prim.Native.Nat.{_+_, _*_, _^_, _<_}
 use native.Mathlib.Omega.{arith}
 use Rattle.build.specs.Build.{builtTold}
-use Rattle.words.specs.Word.{fields, word, Fit, Held}
-use Rattle.words.proofs.Word.{fit-first}
+use Rattle.word.specs.Word.{fields, word, Fit, Held}
+use Rattle.word.proofs.Word.{fit-first}
 use borrow.Author.Needs.{needs}
 use Rattle.codes.proofs.built_word.Statement.{statement}
 use Rattle.codes.proofs.built_word.Tie as tie

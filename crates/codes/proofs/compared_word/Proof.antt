@@ -2,7 +2,7 @@
 use mathlib.Core.Path.{sym, ap, _∙_, subst}
 use mathlib.Core.List.{[], _∷_}
 use Rattle.alike.specs.Compare.{comparedTold}
-use Rattle.words.specs.Word.{fields, word, Held}
+use Rattle.word.specs.Word.{fields, word, Held}
 use borrow.Author.Needs.{needs}
 use Rattle.codes.proofs.compared_word.Statement.{statement}
 use Rattle.codes.proofs.compared_word.Tie as tie

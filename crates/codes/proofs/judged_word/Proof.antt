@@ -4,9 +4,9 @@ use mathlib.Core.List.{[], _∷_}
 use Prim.Native.Nat.{_+_, _*_, _^_, _<_}
 use native.Mathlib.Omega.{arith}
 use Rattle.judge.specs.Judge.{judgedTold}
-use Rattle.words.specs.Word.{fields, word}
-use Rattle.words.specs.Calls.{JudgeHeld}
-use Rattle.words.proofs.Calls.{domains-held, conflict-held, refusal-held}
+use Rattle.word.specs.Word.{fields, word}
+use Rattle.word.specs.Word.{JudgeHeld}
+use Rattle.word.proofs.Word.{domains-held, conflict-held, refusal-held}
 use borrow.Author.Needs.{needs}
 use Rattle.codes.proofs.judged_word.Statement.{statement}
 use Rattle.codes.proofs.judged_word.Tie as tie

@@ -1,7 +1,7 @@
 -- `soroluzko::soroluzko_ask` meets its contract: what the call tells has room in its word (`Calls`). Assumes nothing.
 use mathlib.Core.Path.{sym, ap, _∙_, subst}
 use mathlib.Core.List.{[], _∷_}
-use Rattle.words.specs.Word.{word, Held}
+use Rattle.word.specs.Word.{word, Held}
 use Rattle.words.proofs.Calls.{ask-held}
 use borrow.Author.Needs.{needs}
 use Rattle.soroluzko.proofs.soroluzko_ask.Statement.{statement}

@@ -2,7 +2,7 @@
 -- Assumes nothing.
 use mathlib.Core.Path.{sym, ap, _∙_, subst}
 use mathlib.Core.List.{[], _∷_}
-use Rattle.words.specs.Word.{word, Held}
+use Rattle.word.specs.Word.{word, Held}
 use Rattle.words.proofs.Calls.{build-held}
 use borrow.Author.Needs.{needs}
 use Rattle.soroluzko.proofs.soroluzko_build.Statement.{statement}

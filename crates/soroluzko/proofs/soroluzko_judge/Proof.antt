@@ -1,8 +1,8 @@
 -- `soroluzko::soroluzko_judge` meets its contract: what the call tells has room in its word (`Calls`). Assumes nothing.
 use mathlib.Core.Path.{sym, ap, _∙_, subst}
 use mathlib.Core.List.{[], _∷_}
-use Rattle.words.specs.Word.{word}
-use Rattle.words.specs.Calls.{JudgeHeld}
+use Rattle.word.specs.Word.{word}
+use Rattle.word.specs.Word.{JudgeHeld}
 use Rattle.words.proofs.Calls.{judge-held}
 use borrow.Author.Needs.{needs}
 use Rattle.soroluzko.proofs.soroluzko_judge.Statement.{statement}

@@ -1,5 +1,5 @@
 -- `soroluzko::soroluzko_read_matrix` meets its contract: what the call tells has room in its word (`Files`). Assumes nothing.
-use Rattle.words.proofs.Files.{matrix-read-held}
+use Rattle.filewords.proofs.Files.{matrix-read-held}
 use borrow.Author.Needs.{needs}
 use Rattle.soroluzko.proofs.soroluzko_read_matrix.Statement.{statement}
 use Rattle.soroluzko.proofs.soroluzko_read_matrix.Tie as tie

@@ -1,5 +1,5 @@
 -- `soroluzko::soroluzko_read_policy` meets its contract: what the call tells has room in its word (`Files`). Assumes nothing.
-use Rattle.words.proofs.Files.{policy-read-held}
+use Rattle.filewords.proofs.Files.{policy-read-held}
 use borrow.Author.Needs.{needs}
 use Rattle.soroluzko.proofs.soroluzko_read_policy.Statement.{statement}
 use Rattle.soroluzko.proofs.soroluzko_read_policy.Tie as tie

@@ -1,5 +1,5 @@
 -- `soroluzko::soroluzko_weave` meets its contract: what the call tells has room in its word (`Weave`). Assumes nothing.
-use Rattle.words.proofs.Weave.{woven-held}
+use Rattle.filewords.proofs.Weave.{woven-held}
 use borrow.Author.Needs.{needs}
 use Rattle.soroluzko.proofs.soroluzko_weave.Statement.{statement}
 use Rattle.soroluzko.proofs.soroluzko_weave.Tie as tie

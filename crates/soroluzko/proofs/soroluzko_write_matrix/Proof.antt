@@ -1,5 +1,5 @@
 -- `soroluzko::soroluzko_write_matrix` meets its contract: what the call tells has room in its word (`Files`). Assumes nothing.
-use Rattle.words.proofs.Files.{matrix-written-held}
+use Rattle.filewords.proofs.Files.{matrix-written-held}
 use borrow.Author.Needs.{needs}
 use Rattle.soroluzko.proofs.soroluzko_write_matrix.Statement.{statement}
 use Rattle.soroluzko.proofs.soroluzko_write_matrix.Tie as tie

@@ -1,5 +1,5 @@
 -- `soroluzko::soroluzko_write_policy` meets its contract: what the call tells has room in its word (`Files`). Assumes nothing.
-use Rattle.words.proofs.Files.{policy-written-held}
+use Rattle.filewords.proofs.Files.{policy-written-held}
 use borrow.Author.Needs.{needs}
 use Rattle.soroluzko.proofs.soroluzko_write_policy.Statement.{statement}
 use Rattle.soroluzko.proofs.soroluzko_write_policy.Tie as tie

@@ -18,11 +18,10 @@ use Rattle.layout.proofs.Faults.{place-short}
 use Rattle.writable.specs.Rules.{matrixWriteRules, policyWriteRules}
 use Rattle.files.specs.Read.{MatrixRead, PolicyRead, formed, malformed}
 use Rattle.files.specs.Write.{Written}
-use Rattle.words.specs.Word.{Carried, none, more, Held}
-use Rattle.words.specs.Files.{ReadMatrixKept, ReadPolicyKept, WriteMatrixKept, WritePolicyKept}
-use Rattle.words.proofs.Word.{word-kept, word-low}
-use Rattle.words.proofs.Carried.{carried, sizes-carried, matrix-carried, assignment-carried, table-carried, room-carried}
-use Rattle.words.proofs.Calls.{told-held}
+use Rattle.word.specs.Word.{Carried, none, more, Held}
+use Rattle.filewords.specs.Files.{ReadMatrixKept, ReadPolicyKept, WriteMatrixKept, WritePolicyKept}
+use Rattle.word.proofs.Word.{word-kept, word-low, told-held}
+use Rattle.word.proofs.Carried.{carried, sizes-carried, matrix-carried, assignment-carried, table-carried, room-carried}
 
 malformed-held : (ws : List ℕ) (p : ℕ) → p ≤ 33230 → Held ws (refused (refusal 12 p))
 malformed-held ws p h = carried 12 p (omega arith) (omega arith) (omega arith)

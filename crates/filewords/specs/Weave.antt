@@ -6,8 +6,8 @@ use Rattle.model.specs.Refusal.{Told}
 use Rattle.model.specs.Rules.{roomRules}
 use Rattle.files.specs.Write.{Written}
 use Rattle.woven.specs.Weave.{Woven, longest}
-use Rattle.words.specs.Word.{Kept}
-use Rattle.words.specs.Files.{WrittenWord}
+use Rattle.word.specs.Word.{Kept}
+use Rattle.filewords.specs.Files.{WrittenWord}
 
 -- bits 8 to 31 are the answer's length
 abbrev pub WeaveWord : List ℕ → List ℕ → ℕ → List ℕ → Type 0

@@ -9,7 +9,7 @@ use Rattle.layout.specs.Text.{matrixText, policyText}
 use Rattle.writable.specs.Rules.{matrixWriteRules, policyWriteRules}
 use Rattle.files.specs.Read.{MatrixRead, PolicyRead}
 use Rattle.files.specs.Write.{Written}
-use Rattle.words.specs.Word.{word, Kept}
+use Rattle.word.specs.Word.{word, Kept}
 
 -- read matrix: bits 8 to 15 are n, the next 8 k. w is the word of what is told
 abbrev pub MatrixReadWord : List ℕ → List ℕ → ℕ → List ℕ → Type 0

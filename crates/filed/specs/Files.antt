@@ -5,7 +5,7 @@ use mathlib.Core.List.{List, _∷_, _++_}
 use Prim.Native.Nat.{ℕ, _*_, _≤_, _<_}
 use lib.ListN.{length, take, drop}
 use Rattle.model.specs.declared.Refusal.{Refusal}
-use Rattle.model.specs.Policy.{Policy}
+use Rattle.model.specs.Policy.{Policy, written}
 use Rattle.model.specs.Refusal.{refusal}
 use Rattle.layout.specs.Text.{matrixText, policyText}
 use Rattle.layout.specs.Files.{MatrixFile, PolicyFile, MatrixFormed, PolicyFormed, Malformed}
@@ -18,7 +18,6 @@ use Rattle.files.specs.declared.Wrote.{Wrote}
 use Rattle.files.specs.declared.Wrote.the-variants.{Length, Refused as WriteRefused}
 use Rattle.files.specs.Read.{readMatrixTold, readPolicyTold, MatrixRead, PolicyRead}
 use Rattle.files.specs.Write.{wroteTold, Written}
-use Rattle.claims.specs.Build.{written}
 
 -- the promises of the four calls: s is the file that is read, r the answer, and x′ and y′ are what the buffers x and y become
 abbrev pub ReadsMatrix : List ℕ → List ℕ → ReadMatrix → List ℕ → Type 0

@@ -9,11 +9,10 @@ use Rattle.model.specs.Rules.{roomRules}
 use Rattle.files.specs.Write.{Written}
 use Rattle.woven.specs.Weave.{Woven, longest}
 use Rattle.woven.proofs.Claims.{woven-short}
-use Rattle.words.specs.Word.{none, more, Held}
-use Rattle.words.specs.Weave.{WeaveKept}
-use Rattle.words.proofs.Word.{word-kept, word-low}
-use Rattle.words.proofs.Carried.{room-carried}
-use Rattle.words.proofs.Calls.{told-held}
+use Rattle.word.specs.Word.{none, more, Held}
+use Rattle.filewords.specs.Weave.{WeaveKept}
+use Rattle.word.proofs.Word.{word-kept, word-low, told-held}
+use Rattle.word.proofs.Carried.{room-carried}
 
 pub woven-held : (s t x x′ : List ℕ) (a : Told) → Woven s t → Written (roomRules 11 (length x) longest) t x a x′ → Held (24 ∷ []) a
 woven-held s t x x′ a w z =

@@ -8,7 +8,7 @@ use native.Mathlib.Omega.{arith}
 use lib.ListN.{length, take}
 use Rattle.model.specs.declared.Refusal.{Refusal}
 use Rattle.model.specs.declared.Checked.the-variants.{Fine}
-use Rattle.model.specs.Policy.{Policy, domainOf}
+use Rattle.model.specs.Policy.{Policy, written, domainOf}
 use Rattle.model.specs.Refusal.{Rule, checked, values, refused, over}
 use Rattle.model.specs.Rules.{sizeRules, matrixRules, assignmentRules, tableRules, roomRules}
 use Rattle.model.proofs.Groups.{values-refused, tell-fine, told-fine, group-fine}
@@ -23,10 +23,9 @@ use Rattle.files.specs.declared.ReadPolicy.{ReadPolicy}
 use Rattle.files.specs.declared.Wrote.{Wrote}
 use Rattle.files.specs.declared.Wrote.the-variants.{Length, Refused as WriteRefused}
 use Rattle.files.specs.Write.{wroteTold, Written}
-use Rattle.claims.specs.Build.{written}
-use Rattle.claims.specs.Files.{ReadsMatrix, ReadsPolicy, WritesMatrix, WritesPolicy, FileWritten, WriteKeeps, WriteServes}
-use Rattle.claims.specs.Files.{WrittenRead, ReadWritten, WriteMatrixUnique, WritePolicyUnique}
-use Rattle.claims.proofs.Files.{first-bytes, later-bytes, held-over, held-old, matrix-filled, policy-filled, read-serves}
+use Rattle.filed.specs.Files.{ReadsMatrix, ReadsPolicy, WritesMatrix, WritesPolicy, FileWritten, WriteKeeps, WriteServes}
+use Rattle.filed.specs.Files.{WrittenRead, ReadWritten, WriteMatrixUnique, WritePolicyUnique}
+use Rattle.filed.proofs.Read.{first-bytes, later-bytes, held-over, held-old, matrix-filled, policy-filled, read-serves}
 
 -- ---- what is told determines the answer
 

@@ -10,7 +10,7 @@ use lib.Seq.{take-at, drop-at}
 use Rattle.model.specs.declared.Refusal.{Refusal}
 use Rattle.model.specs.declared.Checked.{Checked}
 use Rattle.model.specs.declared.Checked.the-variants.{Fine}
-use Rattle.model.specs.Policy.{Policy, policy}
+use Rattle.model.specs.Policy.{Policy, policy, written}
 use Rattle.model.specs.Refusal.{refusal, Told, refused, tell, held, over}
 use Rattle.model.specs.Rules.{roomRules}
 use Rattle.model.proofs.Groups.{values-refused, tell-fine, told-fine, told-bad, held-fine, held-bad, group-fine}
@@ -26,9 +26,8 @@ use Rattle.files.specs.declared.ReadMatrix.the-variants.{Matrix, Refused as Mat
 use Rattle.files.specs.declared.ReadPolicy.{ReadPolicy}
 use Rattle.files.specs.declared.ReadPolicy.the-variants.{Policy as APolicy, Refused as PolicyRefused}
 use Rattle.files.specs.Read.{readMatrixTold, readPolicyTold, matrixRoom, policyRoom, MatrixRead, PolicyRead, formed, malformed}
-use Rattle.claims.specs.Build.{written}
-use Rattle.claims.specs.Files.{ReadsMatrix, ReadsPolicy, MatrixFilled, PolicyFilled, ReadKeeps, ReadServes, Placed, Cut, Behind, Examples}
-use Rattle.claims.specs.Files.{ReadMatrixUnique, ReadPolicyUnique}
+use Rattle.filed.specs.Files.{ReadsMatrix, ReadsPolicy, MatrixFilled, PolicyFilled, ReadKeeps, ReadServes, Placed, Cut, Behind, Examples}
+use Rattle.filed.specs.Files.{ReadMatrixUnique, ReadPolicyUnique}
 
 -- ---- what is told determines the answer
 

@@ -7,8 +7,12 @@ use native.Mathlib.Nat.{mul-comm, add-comm, mod-eq-of-lt}
 use native.Mathlib.Omega.{arith}
 use borrow.Author.Tests.{eq-eqb, ne-eqb}
 use lib.Arith.{digits-lt, digits-div, digits-mod}
-use Rattle.model.specs.Refusal.{Told, values, refused}
-use Rattle.words.specs.Word.{fields, unfields, placeBits, word, unword, Fit, none, more, Held}
+use Rattle.model.specs.declared.Refusal.{Refusal}
+use Rattle.model.specs.declared.Checked.{Checked}
+use Rattle.model.specs.declared.Checked.the-variants.{Fine, Bad}
+use Rattle.model.specs.Refusal.{Rule, checked, Told, values, refused, tell}
+use Rattle.model.proofs.Groups.{Gives, gives-bad}
+use Rattle.word.specs.Word.{fields, unfields, placeBits, word, unword, Carried, Fit, none, more, Held, JudgeHeld, enforcing, conflicting, refusing}
 
 -- a sum's low digit, and what is above it
 turned : (b x f : ℕ) → x + b * f ≡ f * b + x
@@ -77,3 +81,23 @@ pub word-low : (ws : List ℕ) → room ws ≤ 2 ^ 24 → (t : Told) → Held ws
 unfolding word
 word-low ws b (values vs) h = omega (arith, fields-low ws vs h)
 word-low ws b (refused r) h = omega (arith, h .number, h .place)
+
+-- ---- what has room
+
+-- what is told has room where the values have, and where each refusal has
+pub told-held : (ws : List ℕ) (rs : List Rule) (vs : List ℕ) → Gives Carried rs → (checked rs ≡ Fine → Fit ws vs) → Held ws (tell (checked rs) vs)
+told-held ws rs vs g f = go (checked rs) refl
+  where
+    go : (c : Checked) → checked rs ≡ c → Held ws (tell c vs)
+    go Fine e = f e
+    go (Bad r) e = gives-bad Carried rs g r e
+
+-- so the numbers that the code puts together are small
+pub domains-held : {d : ℕ} → JudgeHeld (values (0 ∷ d ∷ [])) → d < 2 ^ 16
+domains-held (enforcing d h) = h
+
+pub conflict-held : {i x : ℕ} → JudgeHeld (values (1 ∷ i ∷ x ∷ [])) → (i < 2 ^ 16) × (x < 2 ^ 8)
+conflict-held (conflicting i x h l) = (h, l)
+
+pub refusal-held : {r : Refusal} → JudgeHeld (refused r) → Carried r
+refusal-held (refusing r h) = h

@@ -1,14 +1,14 @@
--- `codes::wrote_word` meets its contract: each case of the answer has its word, which has room for it. Assumes nothing.
+-- `filecodes::wrote_word` meets its contract: each case of the answer has its word, which has room for it. Assumes nothing.
 use mathlib.Core.Path.{_≡_, sym, ap, _∙_, subst}
 use mathlib.Core.List.{[], _∷_}
 use Prim.Native.Nat.{_+_, _*_, _^_, _<_}
 use native.Mathlib.Omega.{arith}
 use Rattle.files.specs.Write.{wroteTold}
-use Rattle.words.specs.Word.{fields, word, Fit, Held}
-use Rattle.words.proofs.Word.{fit-first}
+use Rattle.word.specs.Word.{fields, word, Fit, Held}
+use Rattle.word.proofs.Word.{fit-first}
 use borrow.Author.Needs.{needs}
-use Rattle.codes.proofs.wrote_word.Statement.{statement}
-use Rattle.codes.proofs.wrote_word.Tie as tie
+use Rattle.filecodes.proofs.wrote_word.Statement.{statement}
+use Rattle.filecodes.proofs.wrote_word.Tie as tie
 
 -- what the answer has has room in its field
 fits : (c : tie.After-known-told) → let g = c .before .wrote .given .0 in Fit (24 ∷ []) (g .0 ∷ [])

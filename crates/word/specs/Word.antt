@@ -45,6 +45,12 @@ abbrev pub Held : List ℕ → Told → Type 0
 Held ws (values vs) = Fit ws vs
 Held ws (refused r) = Carried r
 
+-- what a word of the judge can carry
+pub data JudgeHeld : Told → Type 0 where
+  enforcing : (d : ℕ) → d < 2 ^ 16 → JudgeHeld (values (0 ∷ d ∷ []))
+  conflicting : (i x : ℕ) → i < 2 ^ 16 → x < 2 ^ 8 → JudgeHeld (values (1 ∷ i ∷ x ∷ []))
+  refusing : (r : Refusal) → Carried r → JudgeHeld (refused r)
+
 -- nothing is lost: the word tells what was told, and has no more bits
 abbrev pub Kept : List ℕ → ℕ → Told → Type 0
 Kept ws bits t = (unword ws (word ws t) ≡ t) × (word ws t < 2 ^ bits)

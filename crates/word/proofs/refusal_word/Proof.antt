@@ -1,9 +1,9 @@
--- `codes::refusal_word` meets its contract: the sum is the word, and it fits since the word can carry it. Assumes nothing.
+-- `word::refusal_word` meets its contract: the sum is the word, and it fits since the word can carry it. Assumes nothing.
 use native.Mathlib.Omega.{arith}
-use Rattle.words.specs.Word.{word}
+use Rattle.word.specs.Word.{word}
 use borrow.Author.Needs.{needs}
-use Rattle.codes.proofs.refusal_word.Statement.{statement}
-use Rattle.codes.proofs.refusal_word.Tie as tie
+use Rattle.word.proofs.refusal_word.Statement.{statement}
+use Rattle.word.proofs.refusal_word.Tie as tie
 
 mul-result : tie.Need-mul-result
 mul-result c = search needs

@@ -1,0 +1,1 @@
+// What is claimed of the two files, in specs/, with the proofs in proofs/; this crate has no code.
