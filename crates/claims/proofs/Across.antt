@@ -9,23 +9,21 @@ use lib.ListN.{getD}
 use Rattle.model.specs.declared.Checked.the-variants.{Fine}
 use Rattle.model.specs.Matrix.{cell, Full}
 use Rattle.model.specs.Policy.{Policy, written, domainOf, answer, Agrees}
-use Rattle.model.specs.Refusal.{checked}
+use Rattle.model.specs.Refusal.{checked, Unrefused}
 use Rattle.model.specs.Rules.{wholeRules, pairRules}
 use Rattle.model.proofs.Built.{built-few, built-cell, built-alike, built-valid, built-enforces, built-together, built-fewest}
 use Rattle.model.proofs.Groups.{group-fine}
 use Rattle.model.proofs.Rules.{Whole, laid, whole-full, whole-pass, pair-pass}
 use Rattle.ask.specs.declared.Asked.{Asked}
 use Rattle.ask.specs.declared.Asked.the-variants.{Grant, Deny}
-use Rattle.ask.specs.Ask.{Answers}
+use Rattle.ask.specs.Ask.{askRules, Answers}
 use Rattle.alike.specs.Compare.{alikeRules}
 use Rattle.build.specs.declared.Built.the-variants.{Domains}
 use Rattle.build.specs.Build.{builtFrom, Builds}
 use Rattle.judge.specs.declared.Judged.{Judged}
 use Rattle.judge.specs.declared.Judged.the-variants.{Enforces}
-use Rattle.judge.specs.Judge.{Judges}
+use Rattle.judge.specs.Judge.{judgeRules, Judges}
 use Rattle.judge.proofs.Exits.{judgeable}
-use Rattle.claims.specs.Ask.{Serves}
-use Rattle.claims.specs.Judge.{Judgable}
 use Rattle.claims.specs.Across.{BuiltAccepted, BuiltAnswers, BuiltShares, AlikeShares, AcceptedFewest}
 use Rattle.claims.proofs.Ask.{ask-grants, ask-serves}
 use Rattle.claims.proofs.Alike.{alike-answers}
@@ -48,15 +46,15 @@ module _ (n k d : ℕ) (m s t s′ t′ : List ℕ) (b : Builds n k m s t (Domai
 
   accepted : (P : Policy) → P ≡ builtFrom n k m → (j : Judged) → Judges n k m P j → j ≡ Enforces d
   accepted P e j p = judge-accepts n k m P j p d .1 (
-    subst (λ (Q : Policy). Judgable n k m Q) (sym e) (judge-serves n k m (builtFrom n k m) (laid whole)
+    subst (λ (Q : Policy). Unrefused (judgeRules n k m Q)) (sym e) (judge-serves n k m (builtFrom n k m) (laid whole)
         (λ i h. omega (arith, whole .cells .below i h)) few (built-valid n k (cell k n m) full)),
     subst (λ (Q : Policy). Agrees n k (cell k n m) (answer k Q)) (sym e) (built-enforces n k (cell k n m)),
     domains-told n k m s t s′ t′ d b ∙ ap (λ (Q : Policy). Q .domains) (sym e),
   )
 
   module _ (u a v : ℕ) (hu : u < n) (ha : a < k) (hv : v < n) where
-    serves : (P : Policy) → P ≡ builtFrom n k m → Serves n k u a v P
-    serves P e = subst (λ (Q : Policy). Serves n k u a v Q) (sym e) (ask-serves n k u a v (builtFrom n k m)
+    serves : (P : Policy) → P ≡ builtFrom n k m → Unrefused (askRules n k u a v P)
+    serves P e = subst (λ (Q : Policy). Unrefused (askRules n k u a v Q)) (sym e) (ask-serves n k u a v (builtFrom n k m)
         (whole .sized .entities) (whole .sized .right) (whole .sized .rights) few (built-valid n k (cell k n m) full) hu ha hv)
 
     cell-answered : (P : Policy) → P ≡ builtFrom n k m → answer k P u a v ≡ cell k n m u a v

@@ -13,7 +13,7 @@ use Rattle.model.specs.declared.Checked.{Checked}
 use Rattle.model.specs.declared.Checked.the-variants.{Fine, Bad}
 use Rattle.model.specs.Matrix.{cellAt}
 use Rattle.model.specs.Policy.{Policy, domainOf, answer, Grants}
-use Rattle.model.specs.Refusal.{rule, refusal, cellRefusal, checked, Told, values, refused, tell}
+use Rattle.model.specs.Refusal.{rule, refusal, cellRefusal, checked, Told, values, refused, tell, Unrefused}
 use Rattle.model.specs.Rules.{lengthRule, sizeRules, requestRules}
 use Rattle.model.proofs.Groups.{values-refused}
 use Rattle.model.proofs.Built.{answer-low}
@@ -22,7 +22,7 @@ use Rattle.ask.specs.declared.Asked.{Asked}
 use Rattle.ask.specs.declared.Asked.the-variants.{Grant, Deny, Refused}
 use Rattle.ask.specs.Ask.{lookRules, askRules, askTold, askedTold}
 use Rattle.ask.proofs.Exits.{told, looks}
-use Rattle.claims.specs.Ask.{Serves, AskGrants, AskServes, AskAlone, AskUnique}
+use Rattle.claims.specs.Ask.{AskGrants, AskServes, AskAlone, AskUnique}
 
 pub one-nought : values (1 ∷ []) ≡ values (0 ∷ []) → ⊥
 one-nought e = let z : _≡_ {A = ℕ} 0 1 = cc in omega arith
@@ -61,8 +61,8 @@ ask-alone n k u a v P Q w r s e f = told-apart r s (e ∙ same ∙ sym f)
 -- the three cases of what is told
 module _ (n k u a v : ℕ) (P : Policy) where
   data Case : Type 0 where
-    grants : Serves n k u a v P → Grants k P u a v → Case
-    denies : Serves n k u a v P → ¬ Grants k P u a v → Case
+    grants : Unrefused (askRules n k u a v P) → Grants k P u a v → Case
+    denies : Unrefused (askRules n k u a v P) → ¬ Grants k P u a v → Case
     refuses : (r : Refusal) → checked (askRules n k u a v P) ≡ Bad r → Case
 
   cases : Case
@@ -73,21 +73,21 @@ module _ (n k u a v : ℕ) (P : Policy) where
       go Fine e (no g) = denies e g
       go (Bad r) e _ = refuses r e
 
-  granting : Serves n k u a v P → Grants k P u a v → askTold n k u a v P ≡ values (1 ∷ [])
+  granting : Unrefused (askRules n k u a v P) → Grants k P u a v → askTold n k u a v P ≡ values (1 ∷ [])
   granting e g = sym (told n k u a v P Fine e) ∙ ap (λ b. values (cond b 1 0 ∷ [])) (eq-eqb (answer k P u a v) 1 g)
 
-  denying : Serves n k u a v P → ¬ Grants k P u a v → askTold n k u a v P ≡ values (0 ∷ [])
+  denying : Unrefused (askRules n k u a v P) → ¬ Grants k P u a v → askTold n k u a v P ≡ values (0 ∷ [])
   denying e g = sym (told n k u a v P Fine e) ∙ ap (λ b. values (cond b 1 0 ∷ [])) (ne-eqb (answer k P u a v) 1 g)
 
   refusing : (r : Refusal) → checked (askRules n k u a v P) ≡ Bad r → askTold n k u a v P ≡ refused r
   refusing r e = sym (told n k u a v P (Bad r) e)
 
-  granted-only : values (1 ∷ []) ≡ askTold n k u a v P → Case → Serves n k u a v P × Grants k P u a v
+  granted-only : values (1 ∷ []) ≡ askTold n k u a v P → Case → Unrefused (askRules n k u a v P) × Grants k P u a v
   granted-only e (grants f g) = (f, g)
   granted-only e (denies f g) = absurd (one-nought (e ∙ denying f g))
   granted-only e (refuses s f) = absurd (values-refused (1 ∷ []) s (e ∙ refusing s f))
 
-  denied-only : values (0 ∷ []) ≡ askTold n k u a v P → Case → Serves n k u a v P × ¬ Grants k P u a v
+  denied-only : values (0 ∷ []) ≡ askTold n k u a v P → Case → Unrefused (askRules n k u a v P) × ¬ Grants k P u a v
   denied-only e (grants f g) = absurd (one-nought (sym (e ∙ granting f g)))
   denied-only e (denies f g) = (f, g)
   denied-only e (refuses s f) = absurd (values-refused (0 ∷ []) s (e ∙ refusing s f))

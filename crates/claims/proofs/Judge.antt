@@ -13,7 +13,7 @@ use Rattle.model.specs.declared.Checked.the-variants.{Fine}
 use Rattle.model.specs.Matrix.{cellAt, cell}
 use Rattle.model.specs.Policy.{Policy, domainOf, answer, Enforces}
 use Rattle.model.specs.Clash.{clash?, firstClash}
-use Rattle.model.specs.Refusal.{checked, values}
+use Rattle.model.specs.Refusal.{checked, values, Unrefused}
 use Rattle.model.specs.Rules.{sizeRules, matrixRules, assignmentRules, tableRules}
 use Rattle.model.proofs.Below.{first-is, first-le, first-found, first-before}
 use Rattle.model.proofs.Places.{cell-inside, place}
@@ -24,7 +24,7 @@ use Rattle.conflicts.specs.Conflict.{conflict}
 use Rattle.judge.specs.declared.Judged.{Judged}
 use Rattle.judge.specs.declared.Judged.the-variants as judged
 use Rattle.judge.specs.Judge.{judgeRules, verdict, judgeTold, judgedTold}
-use Rattle.claims.specs.Judge.{Contradicts, FirstConflict, Judgable, JudgeAccepts, JudgeConflicts, JudgeServes, JudgeUnique}
+use Rattle.claims.specs.Judge.{Contradicts, FirstConflict, JudgeAccepts, JudgeConflicts, JudgeServes, JudgeUnique}
 
 -- what is told determines the answer
 told-apart : (r q : Judged) → judgedTold r ≡ judgedTold q → r ≡ q
@@ -132,7 +132,7 @@ module _ (n k : ℕ) (m : List ℕ) (P : Policy) where
   unfolding judgeTold
   shown vs e = told-fine (checked (judgeRules n k m P)) vs (verdict n k m P) e
 
-  says : Judgable n k m P → (vs : List ℕ) → verdict n k m P ≡ vs → judgeTold n k m P ≡ values vs
+  says : Unrefused (judgeRules n k m P) → (vs : List ℕ) → verdict n k m P ≡ vs → judgeTold n k m P ≡ values vs
   unfolding judgeTold
   says fine vs e = sym (tell-fine (checked (judgeRules n k m P)) fine (verdict n k m P)) ∙ ap values e
 

@@ -3,10 +3,9 @@ use mathlib.Core.Path.{_≡_}
 use mathlib.Core.Logic.{_↔_}
 use mathlib.Core.List.{List}
 use Prim.Native.Nat.{ℕ, _<_}
-use Rattle.model.specs.declared.Checked.the-variants.{Fine}
 use Rattle.model.specs.Matrix.{cell, Good}
 use Rattle.model.specs.Alike.{Alike}
-use Rattle.model.specs.Refusal.{checked}
+use Rattle.model.specs.Refusal.{Unrefused}
 use Rattle.alike.specs.declared.Compared.{Compared}
 use Rattle.alike.specs.declared.Compared.the-variants.{Yes, No}
 use Rattle.alike.specs.Compare.{alikeRules, Compares}
@@ -14,12 +13,12 @@ use Rattle.alike.specs.Compare.{alikeRules, Compares}
 -- yes exactly if Definition 2.11 holds, no exactly if it does not, where no refusal applies
 abbrev pub AlikeAnswers : Type 0
 AlikeAnswers = (n k u v : ℕ) (m : List ℕ) (r : Compared) → Compares n k u v m r
-    → ((r ≡ Yes) ↔ ((checked (alikeRules n k u v m) ≡ Fine) × Alike n k (cell k n m) u v))
-    × ((r ≡ No) ↔ ((checked (alikeRules n k u v m) ≡ Fine) × ¬ Alike n k (cell k n m) u v))
+    → ((r ≡ Yes) ↔ (Unrefused (alikeRules n k u v m) × Alike n k (cell k n m) u v))
+    × ((r ≡ No) ↔ (Unrefused (alikeRules n k u v m) × ¬ Alike n k (cell k n m) u v))
 
 -- and none does for two entities of a full matrix
 abbrev pub AlikeServes : Type 0
-AlikeServes = (n k u v : ℕ) (m : List ℕ) → Good n k m → u < n → v < n → checked (alikeRules n k u v m) ≡ Fine
+AlikeServes = (n k u v : ℕ) (m : List ℕ) → Good n k m → u < n → v < n → Unrefused (alikeRules n k u v m)
 
 -- two answers that meet the promise are equal
 abbrev pub AlikeUnique : Type 0

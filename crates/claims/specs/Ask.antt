@@ -3,9 +3,8 @@ use mathlib.Core.Path.{_≡_}
 use mathlib.Core.Logic.{_↔_}
 use Prim.Native.Nat.{ℕ, _≤_, _<_}
 use lib.ListN.{length}
-use Rattle.model.specs.declared.Checked.the-variants.{Fine}
 use Rattle.model.specs.Policy.{Policy, domainOf, Valid, answer, Grants}
-use Rattle.model.specs.Refusal.{checked}
+use Rattle.model.specs.Refusal.{Unrefused}
 use Rattle.ask.specs.declared.Asked.{Asked}
 use Rattle.ask.specs.declared.Asked.the-variants.{Grant, Deny}
 use Rattle.ask.specs.Ask.{askRules, Answers}
@@ -19,18 +18,16 @@ pub record Coincide (k u a v : ℕ) (P Q : Policy) : Type 0 where
   pub receiver : domainOf P v ≡ domainOf Q v
   pub asked : answer k P u a v ≡ answer k Q u a v
 
--- no refusal applies
-abbrev pub Serves : ℕ → ℕ → ℕ → ℕ → ℕ → Policy → Type 0
-Serves n k u a v P = checked (askRules n k u a v P) ≡ Fine
-
 -- demand 2: granted exactly if the policy grants, denied exactly if it does not, where no refusal applies
 abbrev pub AskGrants : Type 0
 AskGrants = (n k u a v : ℕ) (P : Policy) (r : Asked) → Answers n k u a v P r
-    → ((r ≡ Grant) ↔ (Serves n k u a v P × Grants k P u a v)) × ((r ≡ Deny) ↔ (Serves n k u a v P × ¬ Grants k P u a v))
+    → ((r ≡ Grant) ↔ (Unrefused (askRules n k u a v P) × Grants k P u a v))
+    × ((r ≡ Deny) ↔ (Unrefused (askRules n k u a v P) × ¬ Grants k P u a v))
 
 -- and none does for a request in range of a policy within the limits
 abbrev pub AskServes : Type 0
-AskServes = (n k u a v : ℕ) (P : Policy) → n ≤ 64 → 0 < k → k ≤ 8 → P .domains ≤ 64 → Valid n k P → u < n → a < k → v < n → Serves n k u a v P
+AskServes = (n k u a v : ℕ) (P : Policy) → n ≤ 64 → 0 < k → k ≤ 8 → P .domains ≤ 64 → Valid n k P → u < n → a < k → v < n
+    → Unrefused (askRules n k u a v P)
 
 -- two calls that agree on these answer alike, whatever stands in the other bytes
 abbrev pub AskAlone : Type 0

@@ -4,10 +4,9 @@ use mathlib.Core.Logic.{_↔_, _⊎_}
 use mathlib.Core.List.{List}
 use Prim.Native.Nat.{ℕ, _≤_, _<_}
 use lib.ListN.{length, getD}
-use Rattle.model.specs.declared.Checked.the-variants.{Fine}
 use Rattle.model.specs.Matrix.{Cells, cellAt, cell, Laid}
 use Rattle.model.specs.Policy.{Policy, Valid, Grants, Enforces}
-use Rattle.model.specs.Refusal.{checked}
+use Rattle.model.specs.Refusal.{Unrefused}
 use Rattle.judge.specs.declared.Judged.{Judged}
 use Rattle.judge.specs.declared.Judged.the-variants as judged
 use Rattle.judge.specs.Judge.{judgeRules, Judges}
@@ -27,24 +26,20 @@ pub record FirstConflict (n k : ℕ) (M : Cells) (P : Policy) (i x : ℕ) : Type
   pub contradicts : Contradicts k M P sender right receiver
   pub first : (u a v : ℕ) → u < n → a < k → v < n → cellAt k n u a v < i → ¬ Contradicts k M P u a v
 
--- no refusal applies
-abbrev pub Judgable : ℕ → ℕ → List ℕ → Policy → Type 0
-Judgable n k m P = checked (judgeRules n k m P) ≡ Fine
-
 -- demand 2: accepted exactly if it enforces every logged cell; and then the number told is the policy's number of domains
 abbrev pub JudgeAccepts : Type 0
 JudgeAccepts = (n k : ℕ) (m : List ℕ) (P : Policy) (r : Judged) → Judges n k m P r
-    → (d : ℕ) → (r ≡ judged.Enforces d) ↔ (Judgable n k m P × Enforces n k (cell k n m) P × (d ≡ P .domains))
+    → (d : ℕ) → (r ≡ judged.Enforces d) ↔ (Unrefused (judgeRules n k m P) × Enforces n k (cell k n m) P × (d ≡ P .domains))
 
 -- and otherwise the conflict told is the first, with what is logged there
 abbrev pub JudgeConflicts : Type 0
 JudgeConflicts = (n k : ℕ) (m : List ℕ) (P : Policy) (r : Judged) → Judges n k m P r
-    → (i x : ℕ) → (r ≡ judged.Conflict i x) ↔ (Judgable n k m P × FirstConflict n k (cell k n m) P i x)
+    → (i x : ℕ) → (r ≡ judged.Conflict i x) ↔ (Unrefused (judgeRules n k m P) × FirstConflict n k (cell k n m) P i x)
 
 -- no refusal applies to a matrix, full or not, and a policy within the limits
 abbrev pub JudgeServes : Type 0
 JudgeServes = (n k : ℕ) (m : List ℕ) (P : Policy) → Laid n k m → ((i : ℕ) → i < length m → getD m i 0 ≤ 2)
-    → P .domains ≤ 64 → Valid n k P → Judgable n k m P
+    → P .domains ≤ 64 → Valid n k P → Unrefused (judgeRules n k m P)
 
 -- two answers that meet the promise are equal
 abbrev pub JudgeUnique : Type 0

@@ -20,7 +20,7 @@ use Rattle.layout.specs.Layout.{reach, matrixLayout, policyLayout, policySizes,
 use Rattle.layout.proofs.Places.{place-one}
 use Rattle.layout.proofs.Files.{matrix-malformed, policy-malformed}
 use Rattle.layout.proofs.Contents.{matrix-one, policy-one}
-use Rattle.layout.proofs.Cuts.{matrix-cut, policy-cut, matrix-behind, policy-behind}
+use Rattle.layout.proofs.Cuts.{matrix-whole, policy-whole, cut as cut-short, behind as bytes-behind}
 use Rattle.files.specs.declared.ReadMatrix.{ReadMatrix}
 use Rattle.files.specs.declared.ReadMatrix.the-variants.{Matrix, Refused as MatrixRefused}
 use Rattle.files.specs.declared.ReadPolicy.{ReadPolicy}
@@ -160,10 +160,10 @@ placed s x y x′ y′ p = (
 )
 
 pub cut : Cut
-cut s p h = (λ f. matrix-cut s f p h, λ f. policy-cut s f p h)
+cut s p h = (λ f. cut-short MatrixFormed matrix-whole s f p h, λ f. cut-short PolicyFormed policy-whole s f p h)
 
 pub behind : Behind
-behind s t h = (λ f. matrix-behind s f t h, λ f. policy-behind s f t h)
+behind s t h = (λ f. bytes-behind MatrixFormed matrix-whole s f t h, λ f. bytes-behind PolicyFormed policy-whole s f t h)
 
 pub examples : Examples
 unfolding reach matrixLayout policyLayout policySizes sizes text number digit digitOf
@@ -174,18 +174,22 @@ examples t = (
 
 -- ---- two answers that meet a promise are equal
 
+pub matrix-read-one : (s x x′ x″ : List ℕ) (t a : Told) → MatrixRead s x t x′ → MatrixRead s x a x″ → (t ≡ a) × (x′ ≡ x″)
+matrix-read-one s x x′ x″ t a (formed n k m f e l) b = let (u, v) = matrix-told s x x″ a n k m f b in (e ∙ sym u, l ∙ sym v)
+matrix-read-one s x x′ x″ t a (malformed p w e l) b = let (u, v) = matrix-placed s x x″ a p w b in (e ∙ sym u, l ∙ sym v)
+
 pub read-matrix-unique : ReadMatrixUnique
-read-matrix-unique s x x′ x″ r q (formed n k m f t l) b =
-    let (u, v) = matrix-told s x x″ (readMatrixTold q) n k m f b in
-    (matrix-apart r q (t ∙ sym u), l ∙ sym v)
-read-matrix-unique s x x′ x″ r q (malformed p w t l) b =
-    let (u, v) = matrix-placed s x x″ (readMatrixTold q) p w b in
-    (matrix-apart r q (t ∙ sym u), l ∙ sym v)
+read-matrix-unique s x x′ x″ r q b c = let (e, l) = matrix-read-one s x x′ x″ (readMatrixTold r) (readMatrixTold q) b c in (matrix-apart r q e, l)
+
+pub policy-read-one : (s x y x′ y′ x″ y″ : List ℕ) (t a : Told) → PolicyRead s x y t x′ y′ → PolicyRead s x y a x″ y″ → (t ≡ a) × (x′ ≡ x″) × (y′ ≡ y″)
+policy-read-one s x y x′ y′ x″ y″ t a (formed n k P f e l o) b =
+    let (u, v, w) = policy-told s x y x″ y″ a n k P f b in
+    (e ∙ sym u, l ∙ sym v, o ∙ sym w)
+policy-read-one s x y x′ y′ x″ y″ t a (malformed p z e l o) b =
+    let (u, v, w) = policy-placed s x y x″ y″ a p z b in
+    (e ∙ sym u, l ∙ sym v, o ∙ sym w)
 
 pub read-policy-unique : ReadPolicyUnique
-read-policy-unique s x y x′ y′ x″ y″ r q (formed n k P f t l o) b =
-    let (u, v, w) = policy-told s x y x″ y″ (readPolicyTold q) n k P f b in
-    (policy-apart r q (t ∙ sym u), l ∙ sym v, o ∙ sym w)
-read-policy-unique s x y x′ y′ x″ y″ r q (malformed p z t l o) b =
-    let (u, v, w) = policy-placed s x y x″ y″ (readPolicyTold q) p z b in
-    (policy-apart r q (t ∙ sym u), l ∙ sym v, o ∙ sym w)
+read-policy-unique s x y x′ y′ x″ y″ r q b c =
+    let (e, l, o) = policy-read-one s x y x′ y′ x″ y″ (readPolicyTold r) (readPolicyTold q) b c in
+    (policy-apart r q e, l, o)

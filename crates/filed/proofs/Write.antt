@@ -9,7 +9,7 @@ use lib.ListN.{length, take}
 use Rattle.model.specs.declared.Refusal.{Refusal}
 use Rattle.model.specs.declared.Checked.the-variants.{Fine}
 use Rattle.model.specs.Policy.{Policy, written, domainOf}
-use Rattle.model.specs.Refusal.{Rule, checked, values, refused, over}
+use Rattle.model.specs.Refusal.{Rule, Told, checked, values, refused, over}
 use Rattle.model.specs.Rules.{sizeRules, matrixRules, assignmentRules, tableRules, roomRules}
 use Rattle.model.proofs.Groups.{values-refused, tell-fine, told-fine, group-fine}
 use Rattle.model.proofs.Rules.{sizes-pass, matrix-pass, assignment-pass, table-pass, room-pass}
@@ -24,7 +24,7 @@ use Rattle.files.specs.declared.Wrote.{Wrote}
 use Rattle.files.specs.declared.Wrote.the-variants.{Length, Refused as WriteRefused}
 use Rattle.files.specs.Write.{wroteTold, Written}
 use Rattle.filed.specs.Files.{ReadsMatrix, ReadsPolicy, WritesMatrix, WritesPolicy, FileWritten, WriteKeeps, WriteServes}
-use Rattle.filed.specs.Files.{WrittenRead, ReadWritten, WriteMatrixUnique, WritePolicyUnique}
+use Rattle.filed.specs.Files.{WrittenRead, ReadWritten, WriteUnique}
 use Rattle.filed.proofs.Read.{first-bytes, later-bytes, held-over, held-old, matrix-filled, policy-filled, read-serves}
 
 -- ---- what is told determines the answer
@@ -52,8 +52,8 @@ module _ (rules : List Rule) (new x x′ : List ℕ) where
   written-length r s fine e w = wrote-apart r (Length (length s))
       (w .told ∙ sym (tell-fine (checked rules) fine (length new ∷ [])) ∙ ap (λ (z : List ℕ). values (length z ∷ [])) (sym e))
 
-  pub written-one : (x″ : List ℕ) (r q : Wrote) → Written rules new x (wroteTold r) x′ → Written rules new x (wroteTold q) x″ → (r ≡ q) × (x′ ≡ x″)
-  written-one x″ r q w z = (wrote-apart r q (w .told ∙ sym (z .told)), w .left ∙ sym (z .left))
+pub written-one : {rules : List Rule} {text x x′ x″ : List ℕ} {t a : Told} → Written rules text x t x′ → Written rules text x a x″ → (t ≡ a) × (x′ ≡ x″)
+written-one w z = (w .told ∙ sym (z .told), w .left ∙ sym (z .left))
 
 pub file-written : FileWritten
 file-written n k size x x′ = (
@@ -135,8 +135,5 @@ read-written n k d s x y x′ y′ f f′ r h = (
 
 -- ---- two answers that meet a promise are equal
 
-pub write-matrix-unique : WriteMatrixUnique
-write-matrix-unique n k m x x′ x″ r q w z = written-one (matrixWriteRules n k m (length x)) (matrixText n k m) x x′ x″ r q w z
-
-pub write-policy-unique : WritePolicyUnique
-write-policy-unique n k P x x′ x″ r q w z = written-one (policyWriteRules n k P (length x)) (policyText n k P) x x′ x″ r q w z
+pub write-unique : WriteUnique
+write-unique rules text x x′ x″ r q w z = let (e, l) = written-one w z in (wrote-apart r q e, l)

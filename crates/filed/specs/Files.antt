@@ -6,7 +6,7 @@ use Prim.Native.Nat.{ℕ, _*_, _≤_, _<_}
 use lib.ListN.{length, take, drop}
 use Rattle.model.specs.declared.Refusal.{Refusal}
 use Rattle.model.specs.Policy.{Policy, written}
-use Rattle.model.specs.Refusal.{refusal}
+use Rattle.model.specs.Refusal.{Rule, refusal}
 use Rattle.layout.specs.Text.{matrixText, policyText}
 use Rattle.layout.specs.Files.{MatrixFile, PolicyFile, MatrixFormed, PolicyFormed, Malformed}
 use Rattle.writable.specs.Rules.{matrixWriteRules, policyWriteRules}
@@ -118,8 +118,7 @@ abbrev pub ReadPolicyUnique : Type 0
 ReadPolicyUnique = (s x y x′ y′ x″ y″ : List ℕ) (r q : ReadPolicy) → ReadsPolicy s x y r x′ y′ → ReadsPolicy s x y q x″ y″
     → (r ≡ q) × (x′ ≡ x″) × (y′ ≡ y″)
 
-abbrev pub WriteMatrixUnique : Type 0
-WriteMatrixUnique = (n k : ℕ) (m x x′ x″ : List ℕ) (r q : Wrote) → WritesMatrix n k m x r x′ → WritesMatrix n k m x q x″ → (r ≡ q) × (x′ ≡ x″)
-
-abbrev pub WritePolicyUnique : Type 0
-WritePolicyUnique = (n k : ℕ) (P : Policy) (x x′ x″ : List ℕ) (r q : Wrote) → WritesPolicy n k P x r x′ → WritesPolicy n k P x q x″ → (r ≡ q) × (x′ ≡ x″)
+-- of a write, whatever its rules and its text are
+abbrev pub WriteUnique : Type 0
+WriteUnique = (rules : List Rule) (text x x′ x″ : List ℕ) (r q : Wrote) → Written rules text x (wroteTold r) x′ → Written rules text x (wroteTold q) x″
+    → (r ≡ q) × (x′ ≡ x″)

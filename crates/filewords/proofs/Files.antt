@@ -1,6 +1,6 @@
 -- What the four calls on files tell has room in their words: no file is longer than 33,230 bytes, so no length and no place is greater, and
--- the numbers are within the limits. Assumes nothing.
-use mathlib.Core.Path.{sym, subst}
+-- the numbers are within the limits. And what is told is one thing, so the word is one. Assumes nothing.
+use mathlib.Core.Path.{sym, ap, _∙_, subst}
 use mathlib.Core.List.{List, [], _∷_, _++_}
 use Prim.Native.Nat.{ℕ, _+_, _≤_}
 use native.Mathlib.Omega.{arith}
@@ -18,8 +18,10 @@ use Rattle.layout.proofs.Faults.{place-short}
 use Rattle.writable.specs.Rules.{matrixWriteRules, policyWriteRules}
 use Rattle.files.specs.Read.{MatrixRead, PolicyRead, formed, malformed}
 use Rattle.files.specs.Write.{Written}
-use Rattle.word.specs.Word.{Carried, none, more, Held}
-use Rattle.filewords.specs.Files.{ReadMatrixKept, ReadPolicyKept, WriteMatrixKept, WritePolicyKept}
+use Rattle.filed.proofs.Read.{matrix-read-one, policy-read-one}
+use Rattle.filed.proofs.Write.{written-one}
+use Rattle.word.specs.Word.{word, Carried, none, more, Held}
+use Rattle.filewords.specs.Files.{ReadMatrixKept, ReadPolicyKept, WriteMatrixKept, WritePolicyKept, MatrixWordUnique, PolicyWordUnique, WrittenWordUnique}
 use Rattle.word.proofs.Word.{word-kept, word-low, told-held}
 use Rattle.word.proofs.Carried.{carried, sizes-carried, matrix-carried, assignment-carried, table-carried, room-carried}
 
@@ -101,3 +103,18 @@ write-matrix-kept n k m x x′ t w = let h = matrix-written-held n k m x x′ t 
 
 pub write-policy-kept : WritePolicyKept
 write-policy-kept n k P x x′ t w = let h = policy-written-held n k P x x′ t w in (word-kept (24 ∷ []) t h, word-low (24 ∷ []) (omega arith) t h)
+
+-- ---- and a promise has one word
+
+pub matrix-word-unique : MatrixWordUnique
+matrix-word-unique s x x′ x″ w v (t, e, b) (a, q, c) =
+    let (o, l) = matrix-read-one s x x′ x″ t a b c in
+    (e ∙ ap (word (8 ∷ 8 ∷ [])) o ∙ sym q, l)
+
+pub policy-word-unique : PolicyWordUnique
+policy-word-unique s x y x′ y′ x″ y″ w v (t, e, b) (a, q, c) =
+    let (o, l, m) = policy-read-one s x y x′ y′ x″ y″ t a b c in
+    (e ∙ ap (word (8 ∷ 8 ∷ 8 ∷ [])) o ∙ sym q, l, m)
+
+pub written-word-unique : WrittenWordUnique
+written-word-unique rules text x x′ x″ w v (t, e, b) (a, q, c) = let (o, l) = written-one b c in (e ∙ ap (word (24 ∷ [])) o ∙ sym q, l)

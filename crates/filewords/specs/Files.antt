@@ -36,3 +36,15 @@ WriteMatrixKept = (n k : ℕ) (m x x′ : List ℕ) (t : Told) → Written (matr
 abbrev pub WritePolicyKept : Type 0
 WritePolicyKept = (n k : ℕ) (P : Policy) (x x′ : List ℕ) (t : Told)
     → Written (policyWriteRules n k P (length x)) (policyText n k P) x t x′ → Kept (24 ∷ []) 32 t
+
+-- two words that meet a promise are equal, and so are the buffers
+abbrev pub MatrixWordUnique : Type 0
+MatrixWordUnique = (s x x′ x″ : List ℕ) (w v : ℕ) → MatrixReadWord s x w x′ → MatrixReadWord s x v x″ → (w ≡ v) × (x′ ≡ x″)
+
+abbrev pub PolicyWordUnique : Type 0
+PolicyWordUnique = (s x y x′ y′ x″ y″ : List ℕ) (w v : ℕ) → PolicyReadWord s x y w x′ y′ → PolicyReadWord s x y v x″ y″
+    → (w ≡ v) × (x′ ≡ x″) × (y′ ≡ y″)
+
+abbrev pub WrittenWordUnique : Type 0
+WrittenWordUnique = (rules : List Rule) (text x x′ x″ : List ℕ) (w v : ℕ) → WrittenWord rules text x w x′ → WrittenWord rules text x v x″
+    → (w ≡ v) × (x′ ≡ x″)

@@ -20,7 +20,7 @@ of-whole (byte P F) [] t h g = absurd h
 of-whole (byte P F) (x ∷ s) t h g = of-whole (F x) s t (h .1) (g .1)
 
 module _ (Formed : List ℕ → Type 0) (whole : (s t : List ℕ) → Formed s → Formed (s ++ t) → t ≡ []) (s : List ℕ) (f : Formed s) where
-  cut : (p : ℕ) → p < length s → Malformed Formed (take p s) p
+  pub cut : (p : ℕ) → p < length s → Malformed Formed (take p s) p
   cut p h =
       let size : length (take p s) ≡ p = length-take-le p s (omega arith) in
       let both : take p s ++ drop p s ≡ s = take-append-drop p s in
@@ -35,7 +35,7 @@ module _ (Formed : List ℕ → Type 0) (whole : (s t : List ℕ) → Formed s �
         };
       }
 
-  behind : (t : List ℕ) → 0 < length t → Malformed Formed (s ++ t) (length s)
+  pub behind : (t : List ℕ) → 0 < length t → Malformed Formed (s ++ t) (length s)
   behind t h = record {
     not = λ g. none t g h;
     place = record {
@@ -58,20 +58,8 @@ module _ (Formed : List ℕ → Type 0) (whole : (s t : List ℕ) → Formed s �
           absurd (none (take (q - length s) t ++ b .0) g (omega (arith, length-append (take (q - length s) t) (b .0))))
       most q l b (no m) = omega arith
 
-matrix-whole : (s t : List ℕ) → MatrixFormed s → MatrixFormed (s ++ t) → t ≡ []
+pub matrix-whole : (s t : List ℕ) → MatrixFormed s → MatrixFormed (s ++ t) → t ≡ []
 matrix-whole s t f g = of-whole matrixLayout s t (matrix-of s f) (matrix-of (s ++ t) g)
 
-policy-whole : (s t : List ℕ) → PolicyFormed s → PolicyFormed (s ++ t) → t ≡ []
+pub policy-whole : (s t : List ℕ) → PolicyFormed s → PolicyFormed (s ++ t) → t ≡ []
 policy-whole s t f g = of-whole policyLayout s t (policy-of s f) (policy-of (s ++ t) g)
-
-pub matrix-cut : (s : List ℕ) → MatrixFormed s → (p : ℕ) → p < length s → Malformed MatrixFormed (take p s) p
-matrix-cut s f = cut MatrixFormed matrix-whole s f
-
-pub policy-cut : (s : List ℕ) → PolicyFormed s → (p : ℕ) → p < length s → Malformed PolicyFormed (take p s) p
-policy-cut s f = cut PolicyFormed policy-whole s f
-
-pub matrix-behind : (s : List ℕ) → MatrixFormed s → (t : List ℕ) → 0 < length t → Malformed MatrixFormed (s ++ t) (length s)
-matrix-behind s f = behind MatrixFormed matrix-whole s f
-
-pub policy-behind : (s : List ℕ) → PolicyFormed s → (t : List ℕ) → 0 < length t → Malformed PolicyFormed (s ++ t) (length s)
-policy-behind s f = behind PolicyFormed policy-whole s f

@@ -1,4 +1,5 @@
 -- Refusals, their order, what an answer tells and what a lent buffer then holds (01, "Numbers of refusal"). Assumes nothing.
+use mathlib.Core.Path.{_≡_}
 use mathlib.Core.Bool.{Bool, cond}
 use mathlib.Core.List.{List, [], _∷_, _++_}
 use Prim.Native.Nat.{ℕ}
@@ -27,6 +28,10 @@ rule b r = record { applies = b; gives = r }
 abbrev pub checked : List Rule → Checked
 checked [] = Fine
 checked (r ∷ rs) = cond (r .applies) (Bad (r .gives)) (checked rs)
+
+-- no refusal applies
+abbrev pub Unrefused : List Rule → Type 0
+Unrefused rules = checked rules ≡ Fine
 
 -- what an answer tells: its values, under the number 0, or a refusal with its number and place
 pub data Told : Type 0 where

@@ -35,9 +35,9 @@ use Rattle.files.specs.declared.Wrote.{Wrote}
 use Rattle.files.specs.declared.Wrote.the-variants.{Length, Refused}
 use Rattle.files.specs.Write.{wroteTold, Written}
 use Rattle.filed.proofs.Read.{first-bytes, later-bytes, held-over}
-use Rattle.filed.proofs.Write.{wrote-apart, written-one, file-written}
+use Rattle.filed.proofs.Write.{wrote-apart, write-unique, file-written}
 use Rattle.woven.specs.Weave.{five, refusalText, answerText, Woven, formed, malformed, longest, Weaves}
-use Rattle.woven.specs.Claims.{WovenTotal, WovenUnique, WovenPolicy, WovenRefused, WovenOnly, WovenCalls, WovenCut, example, gaps, WovenExample}
+use Rattle.woven.specs.Claims.{WovenTotal, WovenUnique, WovenPolicy, WovenRefused, WovenOnly, WovenCalls, WovenCut, example, p10, WovenExample}
 use Rattle.woven.specs.Claims.{WeaveWrites, WeaveKeeps, WeaveUnique, WeaveAlone}
 use Rattle.woven.proofs.Answers.{formed-short, whole-four, built-file, answer-built, answer-refused, four-at}
 use Rattle.woven.proofs.Answers.{built-stands, built-refused, read-file, read-refused}
@@ -131,7 +131,7 @@ nine m s size fine text = record {
 pub woven-example : WovenExample
 unfolding matrixText policyText each refusalText answerText matrixRules fullRules lowestRule lowest cellRefusal all any count first tab cell rows? alike?
     smallest isSmallest classes classOf memberOf domainOf tableOf built
-woven-example t = (λ w. answered (nine full example refl refl refl) w, λ w. answered (nine part gaps refl refl refl) w)
+woven-example t = (λ w. answered (nine full example refl refl refl) w, λ w. answered (nine part p10 refl refl refl) w)
   where
     full : List ℕ
     full = 0 ∷ 0 ∷ 1 ∷ 0 ∷ 0 ∷ 1 ∷ 0 ∷ 0 ∷ 0 ∷ []
@@ -174,7 +174,7 @@ pub weave-unique : WeaveUnique
 weave-unique s x x′ x″ r q (t, w, z) (t′, w′, z′) =
     let rules = roomRules 11 (length x) longest in
     let same = woven-unique s t′ t w′ w in
-    written-one rules t x x′ x″ r q z (subst (λ (l : List ℕ). Written rules l x (wroteTold q) x″) same z′)
+    write-unique rules t x x′ x″ r q z (subst (λ (l : List ℕ). Written rules l x (wroteTold q) x″) same z′)
 
 pub weave-alone : WeaveAlone
 weave-alone s s′ x x′ x″ r q e (t, w, z) =
