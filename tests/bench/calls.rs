@@ -1,4 +1,4 @@
-//! Times soroluzko_build, soroluzko_judge and, in files.rs, the calls on files against plain.rs, which makes the same tests: the same
+//! Times soroluzko_build, soroluzko_alike, soroluzko_judge and, in files.rs, the calls on files against plain.rs, which makes the same tests: the same
 //! bytes, turn about in short rounds, both optimised. Prints the medians of microseconds a call and of the rounds' ratios. First the
 //! answers and all bytes of the buffers are compared, and a difference ends the program.
 //!
@@ -12,6 +12,7 @@ use std::time::Instant;
 
 extern "C" {
     fn soroluzko_build(n: usize, k: usize, m: *const u8, ml: usize, s: *mut u8, sl: usize, t: *mut u8, tl: usize) -> u64;
+    fn soroluzko_alike(n: usize, k: usize, u: usize, v: usize, m: *const u8, ml: usize) -> u64;
     fn soroluzko_judge(n: usize, k: usize, d: usize, m: *const u8, ml: usize, s: *const u8, sl: usize, t: *const u8, tl: usize) -> u64;
 }
 
@@ -22,6 +23,11 @@ fn proved_build(matrix: &[u8], assignment: &mut [u8], table: &mut [u8]) -> u64 {
     let (s, t) = (assignment.len(), table.len());
     // safe: each pointer is with its slice's length, and the borrows do not overlap
     unsafe { soroluzko_build(N, K, matrix.as_ptr(), matrix.len(), assignment.as_mut_ptr(), s, table.as_mut_ptr(), t) }
+}
+
+fn proved_alike(u: usize, v: usize, matrix: &[u8]) -> u64 {
+    // safe: the pointer is with its slice's length
+    unsafe { soroluzko_alike(N, K, u, v, matrix.as_ptr(), matrix.len()) }
 }
 
 fn proved_judge(d: usize, matrix: &[u8], assignment: &[u8], table: &[u8]) -> u64 {
@@ -37,6 +43,13 @@ fn refused(Refusal(number, place): Refusal) -> u64 {
 fn plain_build(matrix: &[u8], assignment: &mut [u8], table: &mut [u8]) -> u64 {
     match plain::build(N, K, matrix, assignment, table) {
         Ok(d) => (d as u64) << 8,
+        Err(r) => refused(r),
+    }
+}
+
+fn plain_alike(u: usize, v: usize, matrix: &[u8]) -> u64 {
+    match plain::compare(N, K, u, v, matrix) {
+        Ok(yes) => (yes as u64) << 8,
         Err(r) => refused(r),
     }
 }
@@ -157,6 +170,14 @@ fn time_build(rounds: usize, label: &str, m: &[u8]) {
     row(rounds, "build", label, says(word, false), proved, &mut || plain_build(black_box(m), &mut ps, &mut pt));
 }
 
+/// The first and the last entity.
+fn time_alike(rounds: usize, label: &str, m: &[u8]) {
+    let (word, plain) = (proved_alike(0, N - 1, m), plain_alike(0, N - 1, m));
+    assert!(word == plain, "alike, {label}: {word:#x} and {plain:#x}");
+    let told = if word == 256 { "yes" } else { "no" };
+    row(rounds, "alike", label, told.to_string(), &mut || proved_alike(0, N - 1, black_box(m)), &mut || plain_alike(0, N - 1, black_box(m)));
+}
+
 fn time_judge(rounds: usize, label: &str, m: &[u8], (d, s, t): &(usize, Vec<u8>, Vec<u8>)) {
     let (word, plain) = (proved_judge(*d, m, s, t), plain_judge(*d, m, s, t));
     assert!(word == plain, "judge, {label}: {word:#x} and {plain:#x}");
@@ -188,6 +209,9 @@ fn main() {
     };
     time_build(rounds, "random, the last cell unlogged", &with(last, 2, named("random")));
 
+    for (label, m) in &all {
+        time_alike(rounds, label, m);
+    }
     for (label, m) in &all {
         time_judge(rounds, &format!("{label}: as built"), m, &built(m));
     }

@@ -1,4 +1,4 @@
-//! Build, judge and the files as a good programmer writes them in an hour: document 01's refusals in its order, a list of
+//! Build, alike, judge and the files as a good programmer writes them in an hour: document 01's refusals in its order, a list of
 //! representatives, slices compared where they stand, one pass over a file. No unsafe code and no trick.
 
 /// The number and the place.
@@ -43,14 +43,30 @@ fn alike(n: usize, k: usize, matrix: &[u8], u: usize, v: usize) -> bool {
     true
 }
 
-#[inline(never)]
-pub fn build(n: usize, k: usize, matrix: &[u8], assignment: &mut [u8], table: &mut [u8]) -> Result<usize, Refusal> {
+fn full(n: usize, k: usize, matrix: &[u8]) -> Result<(), Refusal> {
     sizes(n, k, 0)?;
     if matrix.len() != n * k * n {
         return Err(Refusal(2, 0));
     }
     none(matrix, 3, |cell| cell > 2)?;
-    none(matrix, 4, |cell| cell == 2)?;
+    none(matrix, 4, |cell| cell == 2)
+}
+
+#[inline(never)]
+pub fn compare(n: usize, k: usize, u: usize, v: usize, matrix: &[u8]) -> Result<bool, Refusal> {
+    full(n, k, matrix)?;
+    if u >= n {
+        return Err(Refusal(9, 0));
+    }
+    if v >= n {
+        return Err(Refusal(9, 1));
+    }
+    Ok(alike(n, k, matrix, u, v))
+}
+
+#[inline(never)]
+pub fn build(n: usize, k: usize, matrix: &[u8], assignment: &mut [u8], table: &mut [u8]) -> Result<usize, Refusal> {
+    full(n, k, matrix)?;
     if assignment.len() < n {
         return Err(Refusal(10, n));
     }

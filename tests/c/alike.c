@@ -52,6 +52,10 @@ static void patterns(void) {
         if (m.n) refuses(all[i].name, m, 0, m.n, 9, 1);
         drop(m.cells), drop(yes);
     }
+}
+
+/* P10, P15 and P16 */
+static void limits(void) {
     struct matrix m = {3, 1, of_text("1** *** **0")};
     refuses("P10", m, 0, 1, 4, 1);
     m.cells.at[5] = 3;
@@ -134,6 +138,7 @@ static void full_size(void) {
 
 static void fixed(void) {
     patterns();
+    limits();
     small_ones();
     faults_at_once();
     full_size();

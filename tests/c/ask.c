@@ -79,8 +79,13 @@ static void refusals(void) {
     refuses("a greatest", &good, 0, most, 0, 9, 1);
     refuses("v out of range", &good, 0, 0, 3, 9, 2);
     refuses("v greatest", &good, 0, 0, most, 9, 2);
+    forget(good);
+}
 
-    /* the order: all of it is wrong, and then one thing less at a time */
+/* all of it is wrong, and then one thing less at a time */
+static void order(void) {
+    const size_t most = SIZE_MAX;
+    struct soroluzko_policy good = policy(3, 1, 2, "\0\0\1", 3, "\0\1\0\0", 4), p;
     p = good, p.n = most, p.k = most, p.d = most, refuses("all wrong", &p, most, most, most, 1, 0);
     p = good, p.k = most, p.d = most, p.assignment_length = 0, refuses("all but n", &p, most, most, most, 1, 1);
     p = good, p.d = most, p.assignment_length = 0, refuses("all but n, k", &p, most, most, most, 1, 2);
@@ -89,9 +94,11 @@ static void refusals(void) {
     refuses("9 for u first", &good, most, most, most, 9, 0);
     refuses("9 for a before v", &good, 0, most, most, 9, 1);
     forget(good);
+}
 
-    /* domain numbers, with an odd place that must not read as a grant; and the one cell */
-    p = policy(3, 1, 2, "\2\377\1", 3, "\0\1\0\3", 4);
+/* domain numbers, with an odd place that must not read as a grant; and the one cell */
+static void stray(void) {
+    struct soroluzko_policy p = policy(3, 1, 2, "\2\377\1", 3, "\0\1\0\3", 4);
     refuses("6 for u", &p, 0, 0, 1, 6, 0);
     refuses("9 for a before 6 for u", &p, 0, 1, 1, 9, 1);
     refuses("9 for v before 6 for u", &p, 0, 0, 3, 9, 2);
@@ -148,6 +155,8 @@ static void edges(void) {
 static void fixed(void) {
     grants_and_denials();
     refusals();
+    order();
+    stray();
     edges();
 }
 

@@ -79,6 +79,10 @@ static void patterns(void) {
         for (size_t t = 0; t < table.length; t++) refuses(all[i].name, m, m.n + t % 2, t, 11, table.length);
         drop(m.cells), drop(assignment), drop(table);
     }
+}
+
+/* P10, P15 and P16 */
+static void limits(void) {
     struct matrix m = {3, 1, of_text("1** *** **0")};
     refuses("P10", m, 3, 9, 4, 1);
     m.cells.at[5] = 3;
@@ -199,6 +203,7 @@ static void full_size(void) {
 
 static void fixed(void) {
     patterns();
+    limits();
     small_ones();
     faults_at_once();
     full_size();

@@ -100,3 +100,23 @@ void round_trip(const char *what, struct content c) {
           c.n, c.k, c.d, (unsigned long long)got);
     drop(file), drop(written), drop(assignment), drop(cells);
 }
+
+struct content any_content(void) {
+    if (below(2)) {
+        struct matrix m = any_matrix();
+        for (size_t i = 0; i < m.cells.length; i++)
+            if (below(4) == 0) m.cells.at[i] = 2;
+        if (below(12) == 0) spoil(m, true);
+        return (struct content){false, m.n, m.k, 0, take(0), m.cells};
+    }
+    size_t n = number(below(2) ? 64 : 9), k = number(8), d = number(below(2) ? 64 : 12), s = n, t = d * k * d;
+    bool limits = n <= 64 && k <= 8 && d <= 64;
+    if (!limits || below(24) == 0) s = below(66);
+    if (!limits || below(24) == 0) t = limits && below(2) ? t + 1 : below(40);
+    struct content c = {true, n, k, d, take(s), take(t)};
+    for (size_t u = 0; u < s; u++) c.assignment.at[u] = (uint8_t)(d ? below(d < 64 ? d : 64) : 0);
+    for (size_t i = 0; i < t; i++) c.cells.at[i] = (uint8_t)below(2);
+    if (below(16) == 0 && s) c.assignment.at[below(s)] = (uint8_t)(below(2) ? d : next());
+    if (below(16) == 0 && t) c.cells.at[below(t)] = (uint8_t)(2 + below(254));
+    return c;
+}

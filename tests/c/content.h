@@ -17,6 +17,8 @@ struct content {
 /* of these sizes, with random cells, and domains of which the last has a member */
 struct content of_sizes(bool policy, size_t n, size_t k, size_t d);
 void forget(struct content c);
+/* of random sizes, mostly in order */
+struct content any_content(void);
 
 /* the word of a refusal */
 static inline uint64_t refusal(unsigned number, size_t place) { return number | (uint64_t)place << 8; }

@@ -179,9 +179,9 @@ static struct bytes relength(struct bytes b, size_t length) {
     return b;
 }
 
-/* Every set of faults of a write and of a read, each made in several ways: the first in document 01's order is given, and nothing is
+/* Every set of faults of a write, each made in several ways: the first in document 01's order is given, and nothing is
  * written. */
-static void faults_at_once(bool policy) {
+static void write_faults(bool policy) {
     enum { N, K, D, SHORT, DOMAIN, LENGTH, CELL, ROOM, FAULTS };
     static const size_t n[] = {65, 256, (size_t)1 << 32, SIZE_MAX}, k[] = {0, 9, (size_t)1 << 61, SIZE_MAX};
     static const size_t d[] = {65, 256, (size_t)1 << 32, SIZE_MAX}, s[] = {2, 4, 0, 6}, t[2][4] = {{17, 19, 0, 36}, {7, 9, 0, 16}};
@@ -211,6 +211,10 @@ static void faults_at_once(bool policy) {
                                        : (uint64_t)length << 8);
             forget(c);
         }
+}
+
+/* The same of a read. */
+static void read_faults(bool policy) {
     struct content c = of_sizes(policy, 3, 2, policy ? 2 : 0);
     struct bytes file = file_of(c);
     for (unsigned set = 0; set < 8; set++)
@@ -255,29 +259,9 @@ static void fixed(void) {
     small_ones();
     numbers();
     damages();
-    faults_at_once(false), faults_at_once(true);
+    write_faults(false), write_faults(true);
+    read_faults(false), read_faults(true);
     nothing_lent();
-}
-
-/* random sizes and what they hold, mostly in order */
-static struct content any_content(void) {
-    if (below(2)) {
-        struct matrix m = any_matrix();
-        for (size_t i = 0; i < m.cells.length; i++)
-            if (below(4) == 0) m.cells.at[i] = 2;
-        if (below(12) == 0) spoil(m, true);
-        return (struct content){false, m.n, m.k, 0, take(0), m.cells};
-    }
-    size_t n = number(below(2) ? 64 : 9), k = number(8), d = number(below(2) ? 64 : 12), s = n, t = d * k * d;
-    bool limits = n <= 64 && k <= 8 && d <= 64;
-    if (!limits || below(24) == 0) s = below(66);
-    if (!limits || below(24) == 0) t = limits && below(2) ? t + 1 : below(40);
-    struct content c = {true, n, k, d, take(s), take(t)};
-    for (size_t u = 0; u < s; u++) c.assignment.at[u] = (uint8_t)(d ? below(d < 64 ? d : 64) : 0);
-    for (size_t i = 0; i < t; i++) c.cells.at[i] = (uint8_t)below(2);
-    if (below(16) == 0 && s) c.assignment.at[below(s)] = (uint8_t)(below(2) ? d : next());
-    if (below(16) == 0 && t) c.cells.at[below(t)] = (uint8_t)(2 + below(254));
-    return c;
 }
 
 static void random_calls(void) {

@@ -50,44 +50,49 @@ static void expect(const char *what, struct matrix m, struct offer o, uint64_t w
 
 static void forget(struct offer o) { drop(o.assignment), drop(o.table); }
 
+static const struct {
+    const char *name;
+    size_t n, k;
+    const char *cells;
+    size_t d;
+    const char *assignment, *table;
+    bool enforced;
+    size_t cell;
+    uint8_t logged;
+} all[] = {
+    {"P1", 0, 1, "", 0, "", "", true, 0, 0},
+    {"P2", 1, 1, "1", 1, "0", "1", true, 0, 0},
+    {"P3", 2, 1, "0110", 2, "01", "0110", true, 0, 0},
+    {"P4", 2, 1, "1111", 1, "00", "1", true, 0, 0},
+    {"P5", 2, 1, "0000", 1, "00", "0", true, 0, 0},
+    {"P6", 3, 1, "001 001 000", 2, "001", "0100", true, 0, 0},
+    {"P7", 3, 1, "000 000 010", 3, "012", "000000010", true, 0, 0},
+    {"P8", 3, 1, "010 000 010", 2, "010", "0100", true, 0, 0},
+    {"P9", 2, 2, "1101 1100", 2, "01", "11011100", true, 0, 0},
+    {"P11", 3, 1, "1** *** **0", 2, "001", "1000", true, 0, 0},
+    {"P12", 3, 1, "1** *** **0", 2, "011", "1000", true, 0, 0},
+    {"P13", 3, 1, "1** *** **0", 2, "010", "1000", false, 8, 0},
+    {"P14", 3, 1, "1** *** **0", 1, "000", "0", false, 0, 1},
+    {"P3 in one domain", 2, 1, "0110", 1, "00", "0", false, 1, 1},
+    {"P7 by rows only", 3, 1, "000 000 010", 2, "001", "0000", false, 7, 1},
+    {"P9 by its first right", 2, 2, "1101 1100", 1, "00", "11", false, 2, 0},
+    {"P6 mirrored", 3, 1, "001 001 000", 2, "001", "0010", false, 2, 1},
+    {"gaps alone", 2, 1, "****", 1, "00", "1", true, 0, 0},
+    {"domains without a member", 2, 1, "1111", 4, "33", "0000 0000 0000 0001", true, 0, 0},
+    {"nobody, and three domains", 0, 1, "", 3, "", "101 010 111", true, 0, 0},
+};
+
 static void patterns(void) {
-    static const struct {
-        const char *name;
-        size_t n, k;
-        const char *cells;
-        size_t d;
-        const char *assignment, *table;
-        bool enforced;
-        size_t cell;
-        uint8_t logged;
-    } all[] = {
-        {"P1", 0, 1, "", 0, "", "", true, 0, 0},
-        {"P2", 1, 1, "1", 1, "0", "1", true, 0, 0},
-        {"P3", 2, 1, "0110", 2, "01", "0110", true, 0, 0},
-        {"P4", 2, 1, "1111", 1, "00", "1", true, 0, 0},
-        {"P5", 2, 1, "0000", 1, "00", "0", true, 0, 0},
-        {"P6", 3, 1, "001 001 000", 2, "001", "0100", true, 0, 0},
-        {"P7", 3, 1, "000 000 010", 3, "012", "000000010", true, 0, 0},
-        {"P8", 3, 1, "010 000 010", 2, "010", "0100", true, 0, 0},
-        {"P9", 2, 2, "1101 1100", 2, "01", "11011100", true, 0, 0},
-        {"P11", 3, 1, "1** *** **0", 2, "001", "1000", true, 0, 0},
-        {"P12", 3, 1, "1** *** **0", 2, "011", "1000", true, 0, 0},
-        {"P13", 3, 1, "1** *** **0", 2, "010", "1000", false, 8, 0},
-        {"P14", 3, 1, "1** *** **0", 1, "000", "0", false, 0, 1},
-        {"P3 in one domain", 2, 1, "0110", 1, "00", "0", false, 1, 1},
-        {"P7 by rows only", 3, 1, "000 000 010", 2, "001", "0000", false, 7, 1},
-        {"P9 by its first right", 2, 2, "1101 1100", 1, "00", "11", false, 2, 0},
-        {"P6 mirrored", 3, 1, "001 001 000", 2, "001", "0010", false, 2, 1},
-        {"gaps alone", 2, 1, "****", 1, "00", "1", true, 0, 0},
-        {"domains without a member", 2, 1, "1111", 4, "33", "0000 0000 0000 0001", true, 0, 0},
-        {"nobody, and three domains", 0, 1, "", 3, "", "101 010 111", true, 0, 0},
-    };
     for (size_t i = 0; i < sizeof all / sizeof *all; i++) {
         struct matrix m = {all[i].n, all[i].k, of_text(all[i].cells)};
         struct offer o = {all[i].d, of_text(all[i].assignment), of_text(all[i].table)};
         expect(all[i].name, m, o, all[i].enforced ? enforces(o.d) : conflict(all[i].cell, all[i].logged));
         drop(m.cells), forget(o);
     }
+}
+
+/* P15 and P16 */
+static void limits(void) {
     struct offer o = {64, take(64), take(32768)};
     struct matrix m = even_matrix(64, 8, 1);
     memset(o.assignment.at, 63, 64), memset(o.table.at, 1, 32768);
@@ -159,7 +164,10 @@ static void faults_at_once(void) {
                                          : enforces(2));
             drop(m.cells), forget(o);
         }
-    /* sizes whose product is 0 in 64 bits, with nothing lent; one entity and no domain for it */
+}
+
+/* sizes whose product is 0 in 64 bits, with nothing lent; one entity and no domain for it */
+static void nothing_lent(void) {
     struct offer none = {0, take(0), take(0)}, one = {0, of_text("0"), take(0)};
     expect("n 2^32", (struct matrix){(size_t)1 << 32, 1, take(0)}, none, refusal(1, 0));
     expect("k 2^58", (struct matrix){8, (size_t)1 << 58, take(0)}, none, refusal(1, 1));
@@ -202,8 +210,10 @@ static void full_size(void) {
 
 static void fixed(void) {
     patterns();
+    limits();
     small_ones();
     faults_at_once();
+    nothing_lent();
     full_size();
 }
 

@@ -62,7 +62,8 @@ loop-again c =
     let a = c .before .before .before .before .before .before .before .before .args in
     let l = c .before .before .before .before .before .loop in
     let place : l .from + 4 ≡ a .at + l .u * (a .w + 5) + 4 = omega arith in
-    let filled = c .before .before .fill-cells .ensures ∙ ap (λ (f : ℕ). sets (l .out) (l .to) (tab (a .w) (λ i. cellOf (getD (a .s .now) (f + i) 0)))) place in (
+    let filled = c .before .before .fill-cells .ensures
+    ∙ ap (λ (f : ℕ). sets (l .out) (l .to) (tab (a .w) (λ i. cellOf (getD (a .s .now) (f + i) 0)))) place in (
       omega arith,
       omega arith,
       omega arith,

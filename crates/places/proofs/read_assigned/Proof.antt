@@ -1,4 +1,4 @@
--- `places::read_assigned` meets its contract: each exit is one of `Places`. Assumes nothing.
+-- `places::read_assigned` meets its contract: each exit is one of `Exits`. Assumes nothing.
 use native.Mathlib.Omega.{arith}
 use Rattle.layout.proofs.Stops.{piece-inside}
 use Rattle.places.proofs.Exits.{assigned-marked, assigned-named, assigned-whole}

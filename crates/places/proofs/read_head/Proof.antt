@@ -1,4 +1,4 @@
--- `places::read_head` meets its contract: each exit is one of `Places`. Assumes nothing.
+-- `places::read_head` meets its contract: each exit is one of `Exits`. Assumes nothing.
 use mathlib.Core.Path.{ap, _∙_, subst}
 use mathlib.Core.Bool.{cond}
 use Prim.Native.Nat.{ℕ}
