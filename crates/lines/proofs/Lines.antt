@@ -17,11 +17,11 @@ use Rattle.model.specs.Matrix.{cell, Laid, rowOf}
 use Rattle.model.specs.Alike.{SameRows, rows?, flip, alike?}
 use Rattle.model.proofs.Tests.{same-test, false-of, eqb-of}
 use Rattle.model.proofs.Below.{all-at, all-of}
-use Rattle.model.proofs.Loops.{all-none, all-next, all-fails}
+use Rattle.model.proofs.Loops.{all-none}
 use Rattle.model.proofs.Rows.{inside, passed, row-length, rows-told, row-at}
-use Rattle.model.proofs.Places.{small, spot}
+use Rattle.model.proofs.Places.{spot}
 use Rattle.model.proofs.Alike.{rows-sound, rows-complete}
-use Rattle.lines.specs.Lines.{same?, columns?}
+use Rattle.lines.specs.Lines.{agree?, same?, columns?}
 
 -- ---- with no branch: `apart` is 0 exactly while all are the same
 
@@ -46,53 +46,34 @@ or-xor a p q = go (ℕ-discrete p q) (ℕ-discrete a 0)
       and-le-r a (bitXor p q),
     ))))
 
-pub same-none : (r s : List ℕ) → same? 0 r s ≡ true
-unfolding same?
-same-none r s = all-none (λ i. eqb (getD r i 0) (getD s i 0))
+module _ (f g : ℕ → ℕ) where
+  pub agree-none : agree? 0 f g ≡ true
+  unfolding agree?
+  agree-none = all-none (λ i. eqb (f i) (g i))
 
-pub same-next : (r s : List ℕ) (i a : ℕ) → eqb a 0 ≡ same? i r s → eqb (bitOr a (bitXor (getD r i 0) (getD s i 0))) 0 ≡ same? (i + 1) r s
-unfolding same? all
-same-next r s i a e = or-xor a (getD r i 0) (getD s i 0) ∙ rw (e, add-one i)
+  pub agree-next : (i a : ℕ) → eqb a 0 ≡ agree? i f g → eqb (bitOr a (bitXor (f i) (g i))) 0 ≡ agree? (i + 1) f g
+  unfolding agree? all
+  agree-next i a e = or-xor a (f i) (g i) ∙ rw (e, add-one i)
 
--- what differs early differs
-pub same-fails : (r s : List ℕ) (i e : ℕ) → i ≤ e → same? i r s ≡ false → false ≡ same? e r s
-unfolding same?
-same-fails r s i e h f = sym (false-of (all e at) (λ t. subst T f (all-of i at (λ j l. all-at e at t j (omega arith)))))
-  where
-    at : ℕ → Bool
-    at j = eqb (getD r j 0) (getD s j 0)
-
--- ---- columns, line by line
-
-pub columns-next : (n : ℕ) (m : List ℕ) (u v i : ℕ) → columns? i n m u v ≡ true → getD m (i * n + u) 0 ≡ getD m (i * n + v) 0
-    → columns? (i + 1) n m u v ≡ true
-unfolding columns?
-columns-next n m u v i e f = all-next i (λ j. eqb (getD m (j * n + u) 0) (getD m (j * n + v) 0)) e (eq-eqb (getD m (i * n + u) 0) (getD m (i * n + v) 0) f)
-
-pub columns-none : (n : ℕ) (m : List ℕ) (u v : ℕ) → columns? 0 n m u v ≡ true
-unfolding columns?
-columns-none n m u v = all-none (λ j. eqb (getD m (j * n + u) 0) (getD m (j * n + v) 0))
-
-pub columns-differ : (lines n : ℕ) (m : List ℕ) (u v i : ℕ) → i < lines → ¬ (getD m (i * n + u) 0 ≡ getD m (i * n + v) 0)
-    → false ≡ columns? lines n m u v
-unfolding columns?
-columns-differ lines n m u v i h f =
-    sym (all-fails lines i (λ j. eqb (getD m (j * n + u) 0) (getD m (j * n + v) 0)) h (ne-eqb (getD m (i * n + u) 0) (getD m (i * n + v) 0) f))
+  -- what differs early differs
+  pub agree-fails : (i e : ℕ) → i ≤ e → agree? i f g ≡ false → false ≡ agree? e f g
+  unfolding agree?
+  agree-fails i e h w = sym (false-of (all e at) (λ t. subst T w (all-of i at (λ j l. all-at e at t j (omega arith)))))
+    where
+      at : ℕ → Bool
+      at j = eqb (f j) (g j)
 
 -- ---- rows and columns of a matrix
 
+-- no step of finding a line's cell is large
+pub record Line (n size j x : ℕ) : Type 0 where
+  pub start : j * n ≤ 32768
+  pub inside : j * n + x < size
+
+pub line : {n size e j x : ℕ} → size ≤ 32768 → e * n ≤ size → j < e → x < n → Line n size j x
+line {n} {size} {e} {j} {x} few whole h l = let inside : j * n + x < e * n = digits-lt h l in record { start = omega arith; inside = omega arith }
+
 module _ (n k : ℕ) (m : List ℕ) (L : Laid n k m) where
-  -- no step of finding a line, of one sender and one right, is large
-  pub record Line (i x : ℕ) : Type 0 where
-    pub start : i * n ≤ 32768
-    pub inside : i * n + x < length m
-
-  pub line : (i x : ℕ) → i < n * k → x < n → Line i x
-  line i x h l =
-      let w = small (L .entities) (L .rights) (L .entities) in
-      let inside : i * n + x < n * k * n = digits-lt h l in
-      record { start = omega (arith, w .cells); inside = rw (L .size) inside }
-
   module _ (u v : ℕ) (h : u < n) (l : v < n) where
     abbrev r : List ℕ
     r = rowOf n k m u
@@ -101,7 +82,7 @@ module _ (n k : ℕ) (m : List ℕ) (L : Laid n k m) where
     s = rowOf n k m v
 
     rows-same : same? (length r) r s ≡ rows? n k (cell k n m) u v
-    unfolding same? SameRows
+    unfolding agree? SameRows
     rows-same = same-test (all (length r) at) (rows? n k (cell k n m) u v)
         (λ t. rows-complete n k (cell k n m) u v (λ a x b w.
         sym (row-at n k m u a x b w)
@@ -120,7 +101,7 @@ module _ (n k : ℕ) (m : List ℕ) (L : Laid n k m) where
         long = row-length n k m u (inside L h)
 
     columns-same : columns? (n * k) n m u v ≡ rows? n k (flip (cell k n m)) u v
-    unfolding columns? SameRows cell
+    unfolding agree? SameRows cell
     columns-same = same-test (all (n * k) at) (rows? n k (flip (cell k n m)) u v)
         (λ t. rows-complete n k (flip (cell k n m)) u v (λ a x b w.
         eqb→eq (getD m ((x * k + a) * n + u) 0) (getD m ((x * k + a) * n + v) 0) (all-at (n * k) at t (x * k + a) (digits-lt w b))))

@@ -53,19 +53,38 @@ fn same_block(r: &[u8], s: &[u8], i: usize, e: usize) -> bool
     apart == 0
 }
 
-// Whether the columns of u and v are the same: in each sender's cells for each right.
+// Whether the columns of u and v are the same: in each sender's cells for each right. First the lines that are left over by fours, then four at
+// a time.
 fn same_columns(n: usize, k: usize, u: usize, v: usize, m: &[u8]) -> bool
     requires { ⌜ Laid n k (now m) ⌝ }
     requires { ⌜ (u < n) × (v < n) ⌝ }
     ensures { λ b. ⌜ b ≡ columns? (n * k) n (now (m .entry)) u v ⌝ }
 {
     let lines = n * k;
-    let mut i = 0;
+    let mut i = lines % 4;
+    if !same_lines(n, u, v, m, 0, i) {
+        return false;
+    }
     while i < lines {
-        if m[i * n + u] != m[i * n + v] {
+        if !same_lines(n, u, v, m, i, i + 4) {
             return false;
         }
-        i += 1;
+        i += 4;
     }
     true
+}
+
+// Whether the cells u and v are the same in the first e lines, where they are in the first i. There is no branch inside, as above.
+fn same_lines(n: usize, u: usize, v: usize, m: &[u8], i: usize, e: usize) -> bool
+    requires { ⌜ (u < n) × (v < n) × (e * n ≤ length (now m)) × (length (now m) ≤ 32768) ⌝ }
+    requires { ⌜ (i ≤ e) × (columns? i n (now m) u v ≡ true) ⌝ }
+    ensures { λ b. ⌜ b ≡ columns? e n (now (m .entry)) u v ⌝ }
+{
+    let mut apart: u8 = 0;
+    let mut j = i;
+    while j < e {
+        apart = apart | (m[j * n + u] ^ m[j * n + v]);
+        j += 1;
+    }
+    apart == 0
 }

@@ -3,8 +3,9 @@ use mathlib.Core.Path.{_≡_, sym}
 use Prim.Native.Nat.{_-_, _≤_}
 use native.Mathlib.Omega.{arith}
 use lib.Dec.{eqb}
+use lib.ListN.{getD}
 use Rattle.lines.specs.Lines.{same?}
-use Rattle.lines.proofs.Lines.{same-next}
+use Rattle.lines.proofs.Lines.{agree-next}
 use borrow.Author.Needs.{needs}
 use Rattle.lines.proofs.same_block.Statement.{statement}
 use Rattle.lines.proofs.same_block.Tie as tie
@@ -34,7 +35,7 @@ loop-again : tie.Need-loop-again Inv-loop μ-loop
 loop-again c =
     let l = c .before .before .before .loop in
     let a = c .before .before .before .before .args in
-    (omega arith, same-next (a .r .now) (a .s .now) (l .j) (l .apart) (l .inv .1))
+    (omega arith, agree-next (λ i. getD (a .r .now) i 0) (λ i. getD (a .s .now) i 0) (l .j) (l .apart) (l .inv .1))
 
 returns : tie.Need-returns Inv-loop μ-loop
 returns c = let e : c .before .loop .j ≡ c .before .before .args .e = omega arith in rw e at (c .before .loop .inv .1)

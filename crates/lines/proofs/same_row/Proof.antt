@@ -6,7 +6,7 @@ use native.Mathlib.Omega.{arith}
 use borrow.Author.Tests.{not-true, not-false}
 use lib.ListN.{length}
 use Rattle.lines.specs.Lines.{same?}
-use Rattle.lines.proofs.Lines.{same-none, same-fails}
+use Rattle.lines.proofs.Lines.{agree-none, agree-fails}
 use borrow.Author.Needs.{needs}
 use Rattle.lines.proofs.same_row.Statement.{statement}
 use Rattle.lines.proofs.same_row.Tie as tie
@@ -18,7 +18,7 @@ abbrev μ-loop : tie.MeasureT-loop
 μ-loop r s i₀ i = length r - i
 
 loop-holds : tie.Need-loop-holds Inv-loop μ-loop
-loop-holds c = (omega arith, same-none _ _)
+loop-holds c = (omega arith, agree-none _ _)
 
 sub-loop : tie.Need-sub-loop Inv-loop μ-loop
 sub-loop c = search needs
@@ -34,7 +34,7 @@ returns c =
     let l = c .before .before .before .loop in
     let a = c .before .before .before .before .before .before .args in
     let e = l .i + 64 in
-    same-fails (a .r .now) (a .s .now) e (length (a .r .now)) (omega arith) (sym (c .before .same-block .ensures) ∙ not-true _ (c .if1 .taken))
+    agree-fails _ _ e (length (a .r .now)) (omega arith) (sym (c .before .same-block .ensures) ∙ not-true _ (c .if1 .taken))
 
 add-i : tie.Need-add-i Inv-loop μ-loop
 add-i c = search needs
