@@ -10,7 +10,7 @@ use Rattle.model.specs.Alike.{alike?}
 use Rattle.model.specs.Refusal.{checked, values, refused}
 use Rattle.model.specs.Rules.{wholeRules, pairRules}
 use Rattle.model.proofs.Groups.{group-fine, group-bad, groups-fine}
-use Rattle.model.proofs.Rules.{whole-fine, laid, pair-fine}
+use Rattle.model.proofs.Rules.{whole-fine, pair-fine}
 use Rattle.alike.specs.Compare.{alikeRules, alikeTold}
 
 module _ (n k u v : ℕ) (m : List ℕ) where
@@ -32,7 +32,7 @@ module _ (n k u v : ℕ) (m : List ℕ) where
     unfolding alikeRules
     fits =
         let (f, g) = groups-fine (wholeRules n k m) (pairRules n u v) e in
-        (laid (whole-fine n k m f), pair-fine n u v g)
+        (whole-fine n k m f .laid, pair-fine n u v g)
 
     pub told-yes : alike? n k (cell k n m) u v ≡ true → values (1 ∷ []) ≡ alikeTold n k u v m
     unfolding alikeTold

@@ -9,7 +9,7 @@ use lib.ListN.{length, length-append, length-drop}
 use Rattle.model.specs.declared.Refusal.{Refusal}
 use Rattle.model.specs.declared.Checked.the-variants.{Fine, Bad}
 use Rattle.model.specs.Below.{tab}
-use Rattle.model.specs.Matrix.{cell}
+use Rattle.model.specs.Matrix.{cell, Holds}
 use Rattle.model.specs.Alike.{alike?}
 use Rattle.model.specs.Classes.{classes, classOf, memberOf}
 use Rattle.model.specs.Built.{tableOf, built}
@@ -21,7 +21,7 @@ use Rattle.model.proofs.Places.{place}
 use Rattle.model.proofs.Groups.{group-fine, group-bad, groups-fine, tell-bad, held-bad}
 use Rattle.model.proofs.Classes.{classes-le, member-low}
 use Rattle.model.proofs.Alike.{alike-tests}
-use Rattle.model.proofs.Rules.{Whole, whole-fine, room-fine}
+use Rattle.model.proofs.Rules.{whole-fine, room-fine}
 use Rattle.build.specs.declared.Built.{Built}
 use Rattle.build.specs.declared.Built.the-variants.{Refused}
 use Rattle.classes.specs.Members.{nth, Members}
@@ -52,7 +52,7 @@ module _ (n k : ℕ) (m s t : List ℕ) where
       record { told = tell-bad c r q _; assignment = held-bad c r q _ s; table = held-bad c r q _ t }
 
   module _ (fine : checked (wholeRules n k m ++ roomRules 10 (length s) n) ≡ Fine) where
-    pub whole : Whole n k m
+    pub whole : Holds n k 2 m
     whole = whole-fine n k m (groups-fine (wholeRules n k m) (roomRules 10 (length s) n) fine .0)
 
     pub room : n ≤ length s

@@ -6,13 +6,13 @@ use Prim.Native.Nat.{ℕ, _*_, _<_}
 use lib.ListN.{length, getD, take, drop, List·getD-append}
 use lib.Seq.{take-at, drop-at}
 use Rattle.model.specs.declared.Checked.the-variants.{Fine}
-use Rattle.model.specs.Matrix.{cell}
+use Rattle.model.specs.Matrix.{cell, Holds}
 use Rattle.model.specs.Policy.{policy, written, domainOf}
 use Rattle.model.specs.Refusal.{checked}
 use Rattle.model.specs.Rules.{wholeRules, roomRules}
 use Rattle.model.proofs.Built.{built-entities, built-size}
 use Rattle.model.proofs.Groups.{told-fine, held-fine, groups-fine}
-use Rattle.model.proofs.Rules.{Whole, whole-fine}
+use Rattle.model.proofs.Rules.{whole-fine}
 use Rattle.build.specs.declared.Built.the-variants.{Domains}
 use Rattle.build.specs.Build.{builtFrom, tableSize, buildRules, buildTold, Builds}
 
@@ -27,7 +27,7 @@ module _ (n k : ℕ) (m s t s′ t′ : List ℕ) where
     domains-told = let e = shown .1 in cc
 
     -- so the matrix is full
-    pub whole-built : Whole n k m
+    pub whole-built : Holds n k 2 m
     unfolding buildRules
     whole-built = whole-fine n k m (groups-fine (wholeRules n k m) (roomRules 10 (length s) n ++ roomRules 11 (length t) (tableSize n k m)) (shown .0) .0)
 

@@ -3,17 +3,17 @@
 use mathlib.Core.Path.{_≡_, refl, sym, ap, _∙_, subst}
 use mathlib.Core.Logic.{_↔_}
 use mathlib.Core.List.{List}
-use Prim.Native.Nat.{ℕ, _≤_, _<_}
+use Prim.Native.Nat.{ℕ, _<_}
 use native.Mathlib.Omega.{arith}
 use lib.ListN.{getD}
 use Rattle.model.specs.declared.Checked.the-variants.{Fine}
-use Rattle.model.specs.Matrix.{cell, Full}
-use Rattle.model.specs.Policy.{Policy, written, domainOf, answer, Agrees}
+use Rattle.model.specs.Matrix.{cell, Holds, Full}
+use Rattle.model.specs.Policy.{Policy, written, Within, domainOf, answer, Agrees}
 use Rattle.model.specs.Refusal.{checked, Unrefused}
 use Rattle.model.specs.Rules.{wholeRules, pairRules}
 use Rattle.model.proofs.Built.{built-few, built-cell, built-alike, built-valid, built-enforces, built-together, built-fewest}
 use Rattle.model.proofs.Groups.{group-fine}
-use Rattle.model.proofs.Rules.{Whole, laid, whole-full, whole-pass, pair-pass}
+use Rattle.model.proofs.Rules.{whole-full, whole-pass, pair-pass}
 use Rattle.ask.specs.declared.Asked.{Asked}
 use Rattle.ask.specs.declared.Asked.the-variants.{Grant, Deny}
 use Rattle.ask.specs.Ask.{askRules, Answers}
@@ -32,7 +32,7 @@ use Rattle.claims.proofs.Judge.{judge-accepts, judge-serves}
 
 -- of a build that answered d and left s′ and t′: the matrix is full, and what was written is the built policy
 module _ (n k d : ℕ) (m s t s′ t′ : List ℕ) (b : Builds n k m s t (Domains d) s′ t′) where
-  whole : Whole n k m
+  whole : Holds n k 2 m
   whole = whole-built n k m s t s′ t′ d b
 
   full : Full n k (cell k n m)
@@ -41,13 +41,16 @@ module _ (n k d : ℕ) (m s t s′ t′ : List ℕ) (b : Builds n k m s t (Domai
   is : written n k d s′ t′ ≡ builtFrom n k m
   is = policy-written n k m s t s′ t′ d b
 
-  few : builtFrom n k m .domains ≤ 64
-  few = omega (arith, built-few n k (cell k n m), whole .sized .entities)
+  within : Within n k (builtFrom n k m)
+  within =
+      let l = whole .laid in
+      let few = built-few n k (cell k n m) in
+      record { entities = l .entities; right = l .right; rights = l .rights; few = omega (arith, few); valid = built-valid n k (cell k n m) full }
 
   accepted : (P : Policy) → P ≡ builtFrom n k m → (j : Judged) → Judges n k m P j → j ≡ Enforces d
   accepted P e j p = judge-accepts n k m P j p d .1 (
-    subst (λ (Q : Policy). Unrefused (judgeRules n k m Q)) (sym e) (judge-serves n k m (builtFrom n k m) (laid whole)
-        (λ i h. omega (arith, whole .cells .below i h)) few (built-valid n k (cell k n m) full)),
+    subst (λ (Q : Policy). Unrefused (judgeRules n k m Q)) (sym e) (judge-serves n k m (builtFrom n k m)
+        (record { laid = whole .laid; below = λ i h. omega (arith, whole .below i h) }) within),
     subst (λ (Q : Policy). Agrees n k (cell k n m) (answer k Q)) (sym e) (built-enforces n k (cell k n m)),
     domains-told n k m s t s′ t′ d b ∙ ap (λ (Q : Policy). Q .domains) (sym e),
   )
@@ -55,7 +58,7 @@ module _ (n k d : ℕ) (m s t s′ t′ : List ℕ) (b : Builds n k m s t (Domai
   module _ (u a v : ℕ) (hu : u < n) (ha : a < k) (hv : v < n) where
     serves : (P : Policy) → P ≡ builtFrom n k m → Unrefused (askRules n k u a v P)
     serves P e = subst (λ (Q : Policy). Unrefused (askRules n k u a v Q)) (sym e) (ask-serves n k u a v (builtFrom n k m)
-        (whole .sized .entities) (whole .sized .right) (whole .sized .rights) few (built-valid n k (cell k n m) full) hu ha hv)
+        within hu ha hv)
 
     cell-answered : (P : Policy) → P ≡ builtFrom n k m → answer k P u a v ≡ cell k n m u a v
     cell-answered P e = ap (λ (Q : Policy). answer k Q u a v) e ∙ built-cell n k (cell k n m) u a v hu ha hv
@@ -108,5 +111,5 @@ alike-shares n k d m s t s′ t′ b u v hu hv r p =
 pub accepted-fewest : AcceptedFewest
 accepted-fewest n k d m s t s′ t′ b P x p =
     let a = judge-accepts n k m P (Enforces x) p x .0 refl in
-    let fewest = built-fewest n k (cell k n m) (full n k d m s t s′ t′ b) P (judgeable n k m P (a .0) .policy) (a .1) in
+    let fewest = built-fewest n k (cell k n m) (full n k d m s t s′ t′ b) P (judgeable n k m P (a .0) .1 .valid) (a .1) in
     omega (arith, domains-told n k m s t s′ t′ d b, fewest)

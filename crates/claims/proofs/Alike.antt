@@ -14,7 +14,7 @@ use Rattle.model.specs.Rules.{wholeRules, pairRules}
 use Rattle.model.proofs.Tests.{true-of, false-of}
 use Rattle.model.proofs.Alike.{alike-sound, alike-complete}
 use Rattle.model.proofs.Groups.{values-refused, tell-fine, told-fine, group-fine, groups-fine}
-use Rattle.model.proofs.Rules.{pair-fine, pair-pass, whole-pass, whole-of}
+use Rattle.model.proofs.Rules.{pair-fine, pair-pass, whole-pass}
 use Rattle.alike.specs.declared.Compared.{Compared}
 use Rattle.alike.specs.declared.Compared.the-variants.{Yes, No, Refused}
 use Rattle.alike.specs.Compare.{alikeRules, alikeTold, comparedTold}
@@ -84,4 +84,4 @@ alike-answers n k u v m r p = (
 
 pub alike-serves : AlikeServes
 unfolding alikeRules
-alike-serves n k u v m g h l = group-fine (wholeRules n k m) (pairRules n u v) (whole-pass n k m (whole-of g)) ∙ pair-pass n u v h l
+alike-serves n k u v m g h l = group-fine (wholeRules n k m) (pairRules n u v) (whole-pass n k m g) ∙ pair-pass n u v h l

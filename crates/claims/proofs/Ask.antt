@@ -100,9 +100,10 @@ ask-grants n k u a v P r m = (
 
 pub ask-serves : AskServes
 unfolding lookRules
-ask-serves n k u a v P en ks kr dm ok h b l =
-    looks n k u a v P (sizes-pass n k (P .domains) en ks kr dm) (ok .entities) (ok .size) (request-pass n k u a v h b l)
+ask-serves n k u a v P w h b l =
+    let ok = w .valid in
+    looks n k u a v P (sizes-pass n k (P .domains) (w .entities) (w .right) (w .rights) (w .few)) (ok .entities) (ok .size) (request-pass n k u a v h b l)
     ∙ rw (lt-leb (P .domains) (domainOf P u) (ok .below u h), lt-leb (P .domains) (domainOf P v) (ok .below v l), le-ltb 1 (answer k P u a v) low)
   where
     low : answer k P u a v ≤ 1
-    low = omega (arith, answer-low n k P ok u a v h b l)
+    low = omega (arith, answer-low n k P (w .valid) u a v h b l)

@@ -7,7 +7,7 @@ use Rattle.model.specs.declared.Checked.the-variants.{Fine}
 use Rattle.model.specs.Refusal.{checked}
 use Rattle.model.specs.Rules.{wholeRules, roomRules}
 use Rattle.model.proofs.Groups.{values-refused, tell-fine, told-bad, held-bad, group-fine}
-use Rattle.model.proofs.Rules.{whole-pass, whole-of, room-pass}
+use Rattle.model.proofs.Rules.{whole-pass, room-pass}
 use Rattle.build.specs.declared.Built.{Built}
 use Rattle.build.specs.declared.Built.the-variants.{Domains, Refused}
 use Rattle.build.specs.Build.{builtFrom, tableSize, buildRules, buildTold, builtTold}
@@ -39,6 +39,6 @@ build-serves n k m s t s′ t′ r g x y b = told-apart r (Domains (builtFrom n 
   where
     fine : checked (wholeRules n k m ++ (roomRules 10 (length s) n ++ roomRules 11 (length t) (tableSize n k m))) ≡ Fine
     fine =
-        group-fine (wholeRules n k m) (roomRules 10 (length s) n ++ roomRules 11 (length t) (tableSize n k m)) (whole-pass n k m (whole-of g))
+        group-fine (wholeRules n k m) (roomRules 10 (length s) n ++ roomRules 11 (length t) (tableSize n k m)) (whole-pass n k m g)
         ∙ group-fine (roomRules 10 (length s) n) (roomRules 11 (length t) (tableSize n k m)) (room-pass 10 (length s) n x)
         ∙ room-pass 11 (length t) (tableSize n k m) y

@@ -159,11 +159,13 @@ judge-conflicts n k m P r j i x = (
 
 pub judge-serves : JudgeServes
 unfolding judgeRules domainOf
-judge-serves n k m P L c d ok =
+judge-serves n k m P M W =
     let D = P .domains in
+    let l = M .laid in
+    let ok = W .valid in
     let later = assignmentRules n D (P .assignment) ++ tableRules k D (P .table) in
-    group-fine (sizeRules n k D) (matrixRules n k m ++ later) (sizes-pass n k D (L .entities) (L .right) (L .rights) d)
-    ∙ group-fine (matrixRules n k m) later (matrix-pass n k m (record { long = L .size; below = λ i h. omega (arith, c i h) }))
+    group-fine (sizeRules n k D) (matrixRules n k m ++ later) (sizes-pass n k D (W .entities) (W .right) (W .rights) (W .few))
+    ∙ group-fine (matrixRules n k m) later (matrix-pass n k m (record { long = l .size; below = M .below }))
     ∙ group-fine (assignmentRules n D (P .assignment)) (tableRules k D (P .table))
     (assignment-pass n D (P .assignment) (record { long = ok .entities; below = λ i h. ok .below i (omega (arith, ok .entities)) }))
     ∙ table-pass k D (P .table) (record { long = ok .size; below = ok .cells })

@@ -3,7 +3,7 @@ use mathlib.Core.Path.{_≡_}
 use mathlib.Core.Logic.{_↔_}
 use mathlib.Core.List.{List}
 use Prim.Native.Nat.{ℕ, _<_}
-use Rattle.model.specs.Matrix.{cell, Good}
+use Rattle.model.specs.Matrix.{cell, Holds}
 use Rattle.model.specs.Alike.{Alike}
 use Rattle.model.specs.Refusal.{Unrefused}
 use Rattle.alike.specs.declared.Compared.{Compared}
@@ -18,7 +18,7 @@ AlikeAnswers = (n k u v : ℕ) (m : List ℕ) (r : Compared) → Compares n k u 
 
 -- and none does for two entities of a full matrix
 abbrev pub AlikeServes : Type 0
-AlikeServes = (n k u v : ℕ) (m : List ℕ) → Good n k m → u < n → v < n → Unrefused (alikeRules n k u v m)
+AlikeServes = (n k u v : ℕ) (m : List ℕ) → Holds n k 2 m → u < n → v < n → Unrefused (alikeRules n k u v m)
 
 -- two answers that meet the promise are equal
 abbrev pub AlikeUnique : Type 0

@@ -1,9 +1,9 @@
 -- What is claimed of the ask, over any answer r that meets its promise (01, "The calls"). Assumes nothing.
 use mathlib.Core.Path.{_≡_}
 use mathlib.Core.Logic.{_↔_}
-use Prim.Native.Nat.{ℕ, _≤_, _<_}
+use Prim.Native.Nat.{ℕ, _<_}
 use lib.ListN.{length}
-use Rattle.model.specs.Policy.{Policy, domainOf, Valid, answer, Grants}
+use Rattle.model.specs.Policy.{Policy, domainOf, Within, answer, Grants}
 use Rattle.model.specs.Refusal.{Unrefused}
 use Rattle.ask.specs.declared.Asked.{Asked}
 use Rattle.ask.specs.declared.Asked.the-variants.{Grant, Deny}
@@ -26,8 +26,7 @@ AskGrants = (n k u a v : ℕ) (P : Policy) (r : Asked) → Answers n k u a v P r
 
 -- and none does for a request in range of a policy within the limits
 abbrev pub AskServes : Type 0
-AskServes = (n k u a v : ℕ) (P : Policy) → n ≤ 64 → 0 < k → k ≤ 8 → P .domains ≤ 64 → Valid n k P → u < n → a < k → v < n
-    → Unrefused (askRules n k u a v P)
+AskServes = (n k u a v : ℕ) (P : Policy) → Within n k P → u < n → a < k → v < n → Unrefused (askRules n k u a v P)
 
 -- two calls that agree on these answer alike, whatever stands in the other bytes
 abbrev pub AskAlone : Type 0

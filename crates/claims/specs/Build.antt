@@ -4,7 +4,7 @@ use mathlib.Core.List.{List}
 use Prim.Native.Nat.{ℕ, _*_, _≤_}
 use lib.ListN.{length, drop}
 use Rattle.model.specs.declared.Refusal.{Refusal}
-use Rattle.model.specs.Matrix.{Good}
+use Rattle.model.specs.Matrix.{Holds}
 use Rattle.model.specs.Policy.{written}
 use Rattle.build.specs.declared.Built.{Built}
 use Rattle.build.specs.declared.Built.the-variants.{Domains, Refused}
@@ -21,7 +21,7 @@ BuildKeeps = (n k : ℕ) (m s t s′ t′ : List ℕ) (r : Refusal) → Builds n
 
 -- demand 2: and it refuses no full matrix for which there is room
 abbrev pub BuildServes : Type 0
-BuildServes = (n k : ℕ) (m s t s′ t′ : List ℕ) (r : Built) → Good n k m → n ≤ length s → tableSize n k m ≤ length t
+BuildServes = (n k : ℕ) (m s t s′ t′ : List ℕ) (r : Built) → Holds n k 2 m → n ≤ length s → tableSize n k m ≤ length t
     → Builds n k m s t r s′ t′ → r ≡ Domains (builtFrom n k m .domains)
 
 -- two answers that meet the promise are equal, and so are the buffers

@@ -2,10 +2,9 @@
 use mathlib.Core.Path.{_≡_}
 use mathlib.Core.Logic.{_↔_, _⊎_}
 use mathlib.Core.List.{List}
-use Prim.Native.Nat.{ℕ, _≤_, _<_}
-use lib.ListN.{length, getD}
-use Rattle.model.specs.Matrix.{Cells, cellAt, cell, Laid}
-use Rattle.model.specs.Policy.{Policy, Valid, Grants, Enforces}
+use Prim.Native.Nat.{ℕ, _<_}
+use Rattle.model.specs.Matrix.{Cells, cellAt, cell, Holds}
+use Rattle.model.specs.Policy.{Policy, Within, Grants, Enforces}
 use Rattle.model.specs.Refusal.{Unrefused}
 use Rattle.judge.specs.declared.Judged.{Judged}
 use Rattle.judge.specs.declared.Judged.the-variants as judged
@@ -38,8 +37,7 @@ JudgeConflicts = (n k : ℕ) (m : List ℕ) (P : Policy) (r : Judged) → Judges
 
 -- no refusal applies to a matrix, full or not, and a policy within the limits
 abbrev pub JudgeServes : Type 0
-JudgeServes = (n k : ℕ) (m : List ℕ) (P : Policy) → Laid n k m → ((i : ℕ) → i < length m → getD m i 0 ≤ 2)
-    → P .domains ≤ 64 → Valid n k P → Unrefused (judgeRules n k m P)
+JudgeServes = (n k : ℕ) (m : List ℕ) (P : Policy) → Holds n k 3 m → Within n k P → Unrefused (judgeRules n k m P)
 
 -- two answers that meet the promise are equal
 abbrev pub JudgeUnique : Type 0

@@ -7,13 +7,13 @@ use Prim.Native.Nat.{ℕ, _+_, _*_, _<_}
 use native.Mathlib.Omega.{arith}
 use lib.ListN.{length, getD}
 use Rattle.model.specs.Below.{first}
-use Rattle.model.specs.Matrix.{cellAt, cell}
-use Rattle.model.specs.Policy.{Policy, domainOf, answer}
+use Rattle.model.specs.Matrix.{cellAt, cell, Laid}
+use Rattle.model.specs.Policy.{Policy, domainOf, Within, answer}
 use Rattle.model.specs.Clash.{clash?, firstClash}
 use Rattle.model.proofs.Clashes.{clashAt, clash-cell}
 use Rattle.model.proofs.Loops.{first-next, first-here}
 use Rattle.model.proofs.Places.{Steps, steps, cell-inside}
-use Rattle.conflicts.specs.Conflict.{conflict, Judgeable}
+use Rattle.conflicts.specs.Conflict.{conflict}
 
 -- whether cell i is a conflict
 abbrev pub clashes : ℕ → ℕ → List ℕ → Policy → ℕ → Bool
@@ -24,10 +24,10 @@ pub record Clear (n k : ℕ) (m : List ℕ) (P : Policy) (u a v i : ℕ) : Type 
   pub none : first i (clashes n k m P) ≡ i
 
 -- where the table's cell for (u, a, v) stands
-pub table-steps : {n k : ℕ} {m : List ℕ} {P : Policy} {u a v : ℕ} → Judgeable n k m P → u < n → a < k → v < n
+pub table-steps : {n k : ℕ} {P : Policy} {u a v : ℕ} → Within n k P → u < n → a < k → v < n
     → Steps (P .domains) k (P .domains) (getD (P .assignment) u 0) a (getD (P .assignment) v 0)
 unfolding domainOf
-table-steps {u = u} {v = v} J h b l = steps (J .few) (J .matrix .rights) (J .few) (J .policy .below u h) b (J .policy .below v l)
+table-steps {u = u} {v = v} W h b l = steps (W .few) (W .rights) (W .few) (W .valid .below u h) b (W .valid .below v l)
 
 module _ {n k : ℕ} {m : List ℕ} {P : Policy} {u a v i : ℕ} (c : Clear n k m P u a v i) where
   -- past a row's last cell, past a sender's last row, past the last sender
@@ -48,8 +48,8 @@ module _ {n k : ℕ} {m : List ℕ} {P : Policy} {u a v i : ℕ} (c : Clear n k 
     within : i < n * k * n
     within = rw (c .place) (cell-inside h b l)
 
-    pub inside : Judgeable n k m P → i < length m
-    inside J = omega (arith, J .matrix .size, within)
+    pub inside : Laid n k m → i < length m
+    inside L = omega (arith, L .size, within)
 
     -- what the code reads there
     abbrev pub read : Bool

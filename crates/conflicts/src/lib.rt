@@ -1,9 +1,10 @@
 // The search of a matrix for the first cell that a policy contradicts.
 ghost use mathlib.Core.Path.{_≡_};
 ghost use Prim.Native.Nat.{_<_};
-ghost use Rattle.model.specs.Policy.{policy};
+ghost use Rattle.model.specs.Matrix.{Laid};
+ghost use Rattle.model.specs.Policy.{policy, Within};
 ghost use Rattle.model.specs.Clash.{clash?};
-ghost use Rattle.conflicts.specs.Conflict.{conflict, Judgeable};
+ghost use Rattle.conflicts.specs.Conflict.{conflict};
 
 // The first cell, in cell order, whose logged value the policy contradicts, or the number of cells. The first one ends the scan.
 pub fn first_conflict(
@@ -14,7 +15,8 @@ pub fn first_conflict(
     assignment: &[u8],
     table: &[u8],
 ) -> usize
-    requires { ⌜ Judgeable n k (now matrix) (policy d (now assignment) (now table)) ⌝ }
+    requires { ⌜ Laid n k (now matrix) ⌝ }
+    requires { ⌜ Within n k (policy d (now assignment) (now table)) ⌝ }
     ensures { λ r. ⌜ r ≡ conflict n k (now (matrix .entry)) (policy d (now (assignment .entry)) (now (table .entry))) ⌝ }
 {
     let mut cell = 0;

@@ -59,12 +59,12 @@ pub file-written : FileWritten
 file-written n k size x x′ = (
   λ m w.
       let (fine, long, e) = written-told (matrixWriteRules n k m (length x)) (matrixText n k m) x x′ size w in (
-        subst (MatrixFile n k m) (sym (first-bytes (matrixText n k m) x x′ size long e)) (matrix-writable n k m (length x) fine),
+        record { matrix = matrix-writable n k m (length x) fine; text = first-bytes (matrixText n k m) x x′ size long e },
         later-bytes (matrixText n k m) x x′ size long e,
       ),
   λ P w.
       let (fine, long, e) = written-told (policyWriteRules n k P (length x)) (policyText n k P) x x′ size w in (
-        subst (PolicyFile n k P) (sym (first-bytes (policyText n k P) x x′ size long e)) (policy-writable n k P (length x) fine),
+        record { within = policy-writable n k P (length x) fine; text = first-bytes (policyText n k P) x x′ size long e },
         later-bytes (policyText n k P) x x′ size long e,
       ),
 )
@@ -78,20 +78,21 @@ write-keeps n k x x′ r = (
 matrix-served : (n k : ℕ) (m s : List ℕ) (room : ℕ) → MatrixFile n k m s → length s ≤ room → checked (matrixWriteRules n k m room) ≡ Fine
 unfolding matrixWriteRules
 matrix-served n k m s room f h =
-    let l = f .laid in
+    let l = f .matrix .laid in
     let last = roomRules 11 room (length (matrixText n k m)) in
     group-fine (sizeRules n k 0) (matrixRules n k m ++ last) (sizes-pass n k 0 (l .entities) (l .right) (l .rights) (omega arith))
-    ∙ group-fine (matrixRules n k m) last (matrix-pass n k m (record { long = l .size; below = f .cells }))
+    ∙ group-fine (matrixRules n k m) last (matrix-pass n k m (record { long = l .size; below = f .matrix .below }))
     ∙ room-pass 11 room (length (matrixText n k m)) (omega (arith, ap length (f .text)))
 
 policy-served : (n k : ℕ) (P : Policy) (s : List ℕ) (room : ℕ) → PolicyFile n k P s → length s ≤ room → checked (policyWriteRules n k P room) ≡ Fine
 unfolding policyWriteRules domainOf
 policy-served n k P s room f h =
     let d = P .domains in
-    let W = f .valid in
+    let w = f .within in
+    let W = w .valid in
     let last = roomRules 11 room (length (policyText n k P)) in
     let later = tableRules k d (P .table) ++ last in
-    group-fine (sizeRules n k d) (assignmentRules n d (P .assignment) ++ later) (sizes-pass n k d (f .entities) (f .right) (f .rights) (f .domains))
+    group-fine (sizeRules n k d) (assignmentRules n d (P .assignment) ++ later) (sizes-pass n k d (w .entities) (w .right) (w .rights) (w .few))
     ∙ group-fine (assignmentRules n d (P .assignment)) later
     (assignment-pass n d (P .assignment) (record { long = W .entities; below = λ i b. W .below i (omega (arith, W .entities)) }))
     ∙ group-fine (tableRules k d (P .table)) last (table-pass k d (P .table) (record { long = W .size; below = W .cells }))
@@ -111,7 +112,7 @@ written-read n k size f f′ x y x′ y′ = (
       let g = file-written n k size f f′ .0 m w .0 in
       let p = read-serves n k (take size f′) x y x′ y′ .0 m r g h e in
       let z = matrix-filled n k (take size f′) x x′ (subst (λ (a : ReadMatrix). ReadsMatrix (take size f′) x a x′) p e) .0 in
-      (p, ap (λ (i : ℕ). take i x′) (g .laid .size) ∙ matrix-one z g .2),
+      (p, ap (λ (i : ℕ). take i x′) (g .matrix .laid .size) ∙ matrix-one z g .2),
   λ P r w h l e.
       let g = file-written n k size f f′ .1 P w .0 in
       let p = read-serves n k (take size f′) x y x′ y′ .1 P r g h l e in

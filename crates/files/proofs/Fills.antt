@@ -73,7 +73,7 @@ module _ {s : List ℕ} {n k : ℕ} (F : MatrixFits s n k) where
   matrix-here = here .1
 
   pub matrix-limits : Short n k
-  matrix-limits = short (matrix-here .laid .entities) (matrix-here .laid .rights)
+  matrix-limits = short (matrix-here .matrix .laid .entities) (matrix-here .matrix .laid .rights)
 
   says : MatrixSays n k (here .0) s
   says = matrix-says matrix-here
@@ -139,10 +139,10 @@ module _ {s : List ℕ} {n k d : ℕ} (F : PolicyFits s n k d) where
   domains-are = there .2
 
   pub policy-limits : Short d k
-  policy-limits = short (omega (arith, domains-are, policy-here .domains)) (policy-here .rights)
+  policy-limits = short (omega (arith, domains-are, policy-here .within .few)) (policy-here .within .rights)
 
   pub policy-entities : n ≤ 64
-  policy-entities = policy-here .entities
+  policy-entities = policy-here .within .entities
 
   said : PolicySays n k P s
   said = policy-says policy-here
@@ -155,7 +155,7 @@ module _ {s : List ℕ} {n k d : ℕ} (F : PolicyFits s n k d) where
 
   module _ (x y : List ℕ) where
     room-x : checked (roomRules 10 (length x) (length (P .assignment))) ≡ checked (roomRules 10 (length x) n)
-    room-x = ap (λ (z : ℕ). checked (roomRules 10 (length x) z)) (policy-here .valid .entities)
+    room-x = ap (λ (z : ℕ). checked (roomRules 10 (length x) z)) (policy-here .within .valid .entities)
 
     room-y : checked (roomRules 11 (length y) (length (P .table))) ≡ checked (roomRules 11 (length y) (d * (k * d)))
     room-y = ap (λ (z : ℕ). checked (roomRules 11 (length y) z)) table-size
@@ -185,7 +185,7 @@ module _ {s : List ℕ} {n k d : ℕ} (F : PolicyFits s n k d) where
           let c = policyRoom P x y in
           let fine : c ≡ Fine = both-rooms ∙ q in
           let wide = room-fine 10 (length x) n roomy in
-          let names = filled (P .assignment) x x′ (omega (arith, wide, policy-here .valid .entities)) (f ∙ ap (sets x 0) (said .assignment)) in
+          let names = filled (P .assignment) x x′ (omega (arith, wide, policy-here .within .valid .entities)) (f ∙ ap (sets x 0) (said .assignment)) in
           let rows : each d (rowAt s (11 + n * 2) (k * d)) ≡ P .table =
           ap (λ (z : ℕ). each z (rowAt s (11 + n * 2) (k * z))) (sym domains-are) ∙ said .table in
           let cells = filled (P .table) y y′ (omega (arith, room-fine 11 (length y) (d * (k * d)) q, table-size)) (g ∙ ap (sets y 0) rows) in

@@ -32,7 +32,7 @@ malformed-held ws p h = carried 12 p (omega arith) (omega arith) (omega arith)
 
 pub matrix-read-held : (s x x′ : List ℕ) (t : Told) → MatrixRead s x t x′ → Held (8 ∷ 8 ∷ []) t
 matrix-read-held s x x′ t (MatrixRead.formed n k m f e _) =
-    let l = f .laid in
+    let l = f .matrix .laid in
     subst (Held (8 ∷ 8 ∷ [])) (sym e) (told-held (8 ∷ 8 ∷ []) (roomRules 11 (length x) (length m)) (n ∷ k ∷ [])
     (room-carried 11 (length x) (length m) (omega arith) (omega arith) (omega (arith, l .size, small (l .entities) (l .rights) (l .entities) .cells)))
     (λ _. more (omega (arith, l .entities)) (more (omega (arith, l .rights)) none)))
@@ -46,10 +46,10 @@ policy-read-held s x y x′ y′ t (PolicyRead.formed n k P f e _ _) =
     let cells = roomRules 11 (length y) (length (P .table)) in
     subst (Held (8 ∷ 8 ∷ 8 ∷ [])) (sym e) (told-held (8 ∷ 8 ∷ 8 ∷ []) (names ++ cells) (n ∷ k ∷ P .domains ∷ [])
     (gives-group Carried names cells
-    (room-carried 10 (length x) (length (P .assignment)) (omega arith) (omega arith) (omega (arith, f .valid .entities, f .entities)))
+    (room-carried 10 (length x) (length (P .assignment)) (omega arith) (omega arith) (omega (arith, f .within .valid .entities, f .within .entities)))
     (λ _. room-carried 11 (length y) (length (P .table)) (omega arith) (omega arith)
-    (omega (arith, f .valid .size, small (f .domains) (f .rights) (f .domains) .cells))))
-    (λ _. more (omega (arith, f .entities)) (more (omega (arith, f .rights)) (more (omega (arith, f .domains)) none))))
+    (omega (arith, f .within .valid .size, small (f .within .few) (f .within .rights) (f .within .few) .cells))))
+    (λ _. more (omega (arith, f .within .entities)) (more (omega (arith, f .within .rights)) (more (omega (arith, f .within .few)) none))))
 policy-read-held s x y x′ y′ t (PolicyRead.malformed p m e _ _) =
     subst (Held (8 ∷ 8 ∷ 8 ∷ [])) (sym e) (malformed-held (8 ∷ 8 ∷ 8 ∷ []) p
     (place-short PolicyFormed 33230 (λ l f. policy-short (f .3)) (m .place)))

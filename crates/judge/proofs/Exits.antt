@@ -8,12 +8,13 @@ use lib.ListN.{length, getD}
 use Rattle.model.specs.declared.Refusal.{Refusal}
 use Rattle.model.specs.declared.Checked.{Checked}
 use Rattle.model.specs.declared.Checked.the-variants.{Fine, Bad}
-use Rattle.model.specs.Policy.{Policy, domainOf}
+use Rattle.model.specs.Matrix.{Holds}
+use Rattle.model.specs.Policy.{Policy, domainOf, Valid, Within}
 use Rattle.model.specs.Refusal.{Rule, checked, values, refused, tell}
 use Rattle.model.specs.Rules.{sizeRules, matrixRules, assignmentRules, tableRules}
 use Rattle.model.proofs.Groups.{group-fine, group-bad, groups-fine}
 use Rattle.model.proofs.Rules.{sizes-fine, matrix-fine, assignment-fine, table-fine}
-use Rattle.conflicts.specs.Conflict.{conflict, Judgeable}
+use Rattle.conflicts.specs.Conflict.{conflict}
 use Rattle.judge.specs.Judge.{judgeRules, verdict, judgeTold}
 
 -- ---- the rules, group by group
@@ -47,7 +48,8 @@ module _ (n k : ℕ) (m : List ℕ) (P : Policy) where
       unfolding from5
       table-decides e = sym (after3 ∙ group-fine (assignmentRules n (P .domains) (P .assignment)) (tableRules k (P .domains) (P .table)) e)
 
-  pub judgeable : checked (judgeRules n k m P) ≡ Fine → Judgeable n k m P
+  -- past the rules both are within the limits
+  pub judgeable : checked (judgeRules n k m P) ≡ Fine → Holds n k 3 m × Within n k P
   unfolding judgeRules domainOf
   judgeable e =
       let (e1, f) = groups-fine (sizeRules n k (P .domains)) _ e in
@@ -57,16 +59,15 @@ module _ (n k : ℕ) (m : List ℕ) (P : Policy) where
       let cells = matrix-fine n k m e2 in
       let assigned = assignment-fine n (P .domains) (P .assignment) e5 in
       let table = table-fine k (P .domains) (P .table) e7 in
-      record {
-        matrix = record { entities = sized .entities; right = sized .right; rights = sized .rights; size = cells .long };
-        few = sized .domains;
-        policy = record {
-          entities = assigned .long;
-          below = λ u h. assigned .below u (omega (arith, assigned .long));
-          size = table .long;
-          cells = table .below;
-        };
-      }
+      let valid : Valid n k P = record {
+        entities = assigned .long;
+        below = λ u h. assigned .below u (omega (arith, assigned .long));
+        size = table .long;
+        cells = table .below;
+      } in (
+        record { laid = record { entities = sized .entities; right = sized .right; rights = sized .rights; size = cells .long }; below = cells .below },
+        record { entities = sized .entities; right = sized .right; rights = sized .rights; few = sized .domains; valid = valid },
+      )
 
   -- ---- what is told
 
@@ -80,7 +81,7 @@ module _ (n k : ℕ) (m : List ℕ) (P : Policy) where
   -- past the rules, where i is what the scan found
   module _ (fine : checked (judgeRules n k m P) ≡ Fine) (i : ℕ) (e : i ≡ conflict n k m P) where
     size : length m ≡ n * k * n
-    size = judgeable fine .matrix .size
+    size = judgeable fine .0 .laid .size
 
     pub conflicts : i < length m → values (1 ∷ i ∷ getD m i 0 ∷ []) ≡ judgeTold n k m P
     unfolding verdict

@@ -108,13 +108,13 @@ pub record MatrixSays (n k : ℕ) (m s : List ℕ) : Type 0 where
 pub matrix-says : {n k : ℕ} {m s : List ℕ} → MatrixFile n k m s → MatrixSays n k m s
 unfolding matrixText
 matrix-says {n} {k} {m} {s} f =
-    let l = f .laid in
+    let l = f .matrix .laid in
     let size : length m ≡ n * (k * n) = l .size ∙ mul-assoc n k n in
     let head : List ℕ = line (MX ++ (two n ++ one k)) in
     record {
       entities = ap (λ (z : List ℕ). numberAt z 2) (f .text) ∙ two-back n (omega (arith, l .entities));
       rights = ap (λ (z : List ℕ). digitAt z 4) (f .text) ∙ digit-value k (omega (arith, l .rights));
-      matrix = records-back RW (k * n) m refl n 3 s head (line ZZ) 6 (omega arith) (record { long = size; below = f .cells }) refl (f .text);
+      matrix = records-back RW (k * n) m refl n 3 s head (line ZZ) 6 (omega arith) (record { long = size; below = f .matrix .below }) refl (f .text);
       long = ap length (f .text) ∙ matrix-length n k m;
       size = size;
     }
@@ -134,7 +134,8 @@ pub policy-says : {n k : ℕ} {P : Policy} {s : List ℕ} → PolicyFile n k P s
 unfolding policyText domainOf
 policy-says {n} {k} {P} {s} f =
     let d = P .domains in
-    let W = f .valid in
+    let w = f .within in
+    let W = w .valid in
     let l = P .assignment in
     let t = P .table in
     let size : length t ≡ d * (k * d) = W .size ∙ mul-assoc d k d in
@@ -146,11 +147,11 @@ policy-says {n} {k} {P} {s} f =
     let split : s ≡ (head ++ AS) ++ (names ++ ((10 ∷ []) ++ (rows ++ line ZZ))) =
     f .text ∙ ap (λ (z : List ℕ). (head ++ AS) ++ z) (append-assoc names (10 ∷ []) (rows ++ line ZZ)) in
     record {
-      entities = ap (λ (z : List ℕ). numberAt z 2) (f .text) ∙ two-back n (omega (arith, f .entities));
-      rights = ap (λ (z : List ℕ). digitAt z 4) (f .text) ∙ digit-value k (omega (arith, f .rights));
-      domains = ap (λ (z : List ℕ). numberAt z 5) (f .text) ∙ two-back d (omega (arith, f .domains));
+      entities = ap (λ (z : List ℕ). numberAt z 2) (f .text) ∙ two-back n (omega (arith, w .entities));
+      rights = ap (λ (z : List ℕ). digitAt z 4) (f .text) ∙ digit-value k (omega (arith, w .rights));
+      domains = ap (λ (z : List ℕ). numberAt z 5) (f .text) ∙ two-back d (omega (arith, w .few));
       assignment =
-          numbers-back n d l s (head ++ AS) ((10 ∷ []) ++ (rows ++ line ZZ)) 10 (omega (arith, f .domains))
+          numbers-back n d l s (head ++ AS) ((10 ∷ []) ++ (rows ++ line ZZ)) 10 (omega (arith, w .few))
           (record { long = W .entities; below = λ i h. W .below i (omega (arith, W .entities)) }) refl split;
       table =
           records-back TB (k * d) t refl d 2 s (head ++ line (AS ++ names)) (line ZZ) (11 + n * 2) (omega arith)
@@ -194,7 +195,7 @@ short {c} {k} h l =
     record { row = row; rows = mul-le-mul h line }
 
 pub matrix-short : {n k : ℕ} {m s : List ℕ} → MatrixFile n k m s → length s ≤ 33097
-matrix-short {n} {k} f = omega (arith, matrix-says f .long, short (f .laid .entities) (f .laid .rights) .rows)
+matrix-short {n} {k} f = omega (arith, matrix-says f .long, short (f .matrix .laid .entities) (f .matrix .laid .rights) .rows)
 
 pub policy-short : {n k : ℕ} {P : Policy} {s : List ℕ} → PolicyFile n k P s → length s ≤ 33230
-policy-short {n} {k} {P} f = omega (arith, policy-says f .long, f .entities, short (f .domains) (f .rights) .rows)
+policy-short {n} {k} {P} f = omega (arith, policy-says f .long, f .within .entities, short (f .within .few) (f .within .rights) .rows)

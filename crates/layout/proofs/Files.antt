@@ -129,8 +129,10 @@ module _ (s : List ℕ) where
         z .k,
         m,
         record {
-          laid = record { entities = z .entities; right = z .right; rights = z .rights; size = g .long };
-          cells = g .below;
+          matrix = record {
+            laid = record { entities = z .entities; right = z .right; rights = z .rights; size = g .long };
+            below = g .below;
+          };
           text = z .is ∙ ap (λ (l : List ℕ). MX ++ (two (z .n) ++ (one (z .k) ++ l))) e;
         },
       )
@@ -138,10 +140,11 @@ module _ (s : List ℕ) where
   pub matrix-of : MatrixFormed s → Of matrixLayout s
   unfolding matrixLayout matrixText
   matrix-of (n, k, m, f) =
-      let l = f .laid in
+      let l = f .matrix .laid in
       subst (Of (sizes MX (λ n k. tail RW 3 (k * n) n))) (sym (f .text))
       (sizes-of MX (λ n k. tail RW 3 (k * n) n) n k (10 ∷ (each n (recordText RW (k * n) m) ++ line ZZ)) (l .entities) (l .right) (l .rights)
-      (tail-of RW 3 (k * n) n (omega arith) (omega arith) (omega (arith, l .entities)) m (sized n k n 3 m (record { long = l .size; below = f .cells }))))
+      (tail-of RW 3 (k * n) n (omega arith) (omega arith) (omega (arith, l .entities)) m
+      (sized n k n 3 m (record { long = l .size; below = f .matrix .below }))))
 
 matrix-live : Live matrixLayout
 unfolding matrixLayout
@@ -229,11 +232,13 @@ module _ (s : List ℕ) where
         z .k,
         policy d l t,
         record {
-          entities = z .entities;
-          right = z .right;
-          rights = z .rights;
-          domains = omega (arith, o₁ .1);
-          valid = record { entities = f .long; below = λ u b. f .below u (rw (f .long) b); size = r .long; cells = r .below };
+          within = record {
+            entities = z .entities;
+            right = z .right;
+            rights = z .rights;
+            few = omega (arith, o₁ .1);
+            valid = record { entities = f .long; below = λ u b. f .below u (rw (f .long) b); size = r .long; cells = r .below };
+          };
           text = joined (PD ++ (two (z .n) ++ one (z .k))) (two d) s (z .rest) _ (z .is) (joined (two d) (10 ∷ []) (z .rest) s₁ _ e₁ e₂);
         },
       )
@@ -242,13 +247,14 @@ module _ (s : List ℕ) where
   unfolding policyLayout policySizes assigned policyText domainOf least
   policy-of (n, k, P, f) =
       let d = P .domains in
-      let W = f .valid in
+      let w = f .within in
+      let W = w .valid in
       let some : 0 < n → 0 < d = λ h. omega (arith, W .below 0 h) in
       let R : List ℕ = 10 ∷ (line (AS ++ each n (λ u. two (getD (P .assignment) u 0))) ++ (each d (recordText TB (k * d) (P .table)) ++ line ZZ)) in
       subst (Of (sizes PD policyRest)) (sym (f .text))
-      (sizes-of PD policyRest n k (two d ++ R) (f .entities) (f .right) (f .rights)
-      (number-of (least n) 65 (body n k) (omega arith) d R (least-le n d some) (omega (arith, f .domains))
-      (body-of n k d some (f .domains) (P .assignment) (P .table)
+      (sizes-of PD policyRest n k (two d ++ R) (w .entities) (w .right) (w .rights)
+      (number-of (least n) 65 (body n k) (omega arith) d R (least-le n d some) (omega (arith, w .few))
+      (body-of n k d some (w .few) (P .assignment) (P .table)
       (record { long = W .entities; below = λ i h. W .below i (omega (arith, W .entities)) })
       (sized d k d 2 (P .table) (record { long = W .size; below = W .cells })))))
 

@@ -1,25 +1,20 @@
 -- Which files are well formed, and the place of refusal 12 (01, "The two files"). Assumes nothing.
 use mathlib.Core.Path.{_≡_}
 use mathlib.Core.List.{List, _++_}
-use Prim.Native.Nat.{ℕ, _≤_, _<_}
-use lib.ListN.{length, getD, take}
-use Rattle.model.specs.Matrix.{Laid}
-use Rattle.model.specs.Policy.{Policy, Valid}
+use Prim.Native.Nat.{ℕ, _≤_}
+use lib.ListN.{length, take}
+use Rattle.model.specs.Matrix.{Holds}
+use Rattle.model.specs.Policy.{Policy, Within}
 use Rattle.layout.specs.Text.{matrixText, policyText}
 
 -- s is the file of the matrix m, which is within the limits
 pub record MatrixFile (n k : ℕ) (m s : List ℕ) : Type 0 where
-  pub laid : Laid n k m
-  pub cells : (i : ℕ) → i < length m → getD m i 0 < 3
+  pub matrix : Holds n k 3 m
   pub text : s ≡ matrixText n k m
 
 -- s is the file of the policy P, which is within the limits
 pub record PolicyFile (n k : ℕ) (P : Policy) (s : List ℕ) : Type 0 where
-  pub entities : n ≤ 64
-  pub right : 0 < k
-  pub rights : k ≤ 8
-  pub domains : P .domains ≤ 64
-  pub valid : Valid n k P
+  pub within : Within n k P
   pub text : s ≡ policyText n k P
 
 -- a well-formed file is that of some matrix, or of some policy

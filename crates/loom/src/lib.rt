@@ -4,9 +4,8 @@ use files::ReadMatrix;
 ghost use mathlib.Core.Path.{_≡_};
 ghost use Prim.Native.Nat.{_≤_};
 ghost use lib.ListN.{length};
+ghost use Rattle.model.specs.Matrix.{Holds};
 ghost use Rattle.model.specs.Refusal.{over};
-ghost use Rattle.layout.specs.Text.{matrixText};
-ghost use Rattle.layout.specs.Files.{MatrixFile};
 ghost use Rattle.woven.specs.Weave.{answerText, longest, Wove};
 
 // The answer to a matrix that is within the limits, and its length. The policy is built in the two buffers that are lent.
@@ -18,7 +17,7 @@ fn put_answer(
     table: &mut [u8],
     output: &mut [u8],
 ) -> usize
-    requires { ⌜ MatrixFile n k (now matrix) (matrixText n k (now matrix)) ⌝ }
+    requires { ⌜ Holds n k 3 (now matrix) ⌝ }
     requires { ⌜ (64 ≤ length (now assignment)) × (32768 ≤ length (now table)) × (longest ≤ length (now output)) ⌝ }
     ensures { λ size. ⌜ size ≡ length (answerText n k (now (matrix .entry))) ⌝ }
     ensures { λ _. ⌜ now (output .exit) ≡ over (answerText n k (now (matrix .entry))) (now (output .entry)) ⌝ }

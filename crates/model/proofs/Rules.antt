@@ -11,7 +11,7 @@ use lib.ListN.{length, getD}
 use Rattle.model.specs.declared.Refusal.{Refusal}
 use Rattle.model.specs.declared.Checked.the-variants.{Fine, Bad}
 use Rattle.model.specs.Below.{any, first}
-use Rattle.model.specs.Matrix.{cellAt, cell, Laid, Good, Full}
+use Rattle.model.specs.Matrix.{cellAt, cell, Holds, Full}
 use Rattle.model.specs.Refusal.{Rule, checked, refusal, cellRefusal}
 use Rattle.model.specs.Rules.{lowest, lowestRule, lengthRule, listRules, sizeRules, matrixRules, fullRules, assignmentRules}
 use Rattle.model.specs.Rules.{wholeRules, tableRules, requestRules, pairRules, roomRules}
@@ -201,39 +201,27 @@ full-pass n k m F = lowest-pass (eqb 2) m (cellRefusal 4 k n) (λ i h. ne-eqb 2 
 
 -- ---- a full matrix within the limits
 
-pub record Whole (n k : ℕ) (m : List ℕ) : Type 0 where
-  pub sized : Sized n k 0
-  pub cells : Filled (n * k * n) 2 m
-
-pub whole-fine : (n k : ℕ) (m : List ℕ) → checked (wholeRules n k m) ≡ Fine → Whole n k m
+pub whole-fine : (n k : ℕ) (m : List ℕ) → checked (wholeRules n k m) ≡ Fine → Holds n k 2 m
 unfolding wholeRules
 whole-fine n k m e =
     let (f, g) = groups-fine (sizeRules n k 0) (matrixRules n k m ++ fullRules n k m) e in
     let (h, l) = groups-fine (matrixRules n k m) (fullRules n k m) g in
-    record { sized = sizes-fine n k 0 f; cells = full-fine n k m (matrix-fine n k m h) l }
+    let z = sizes-fine n k 0 f in
+    let F = full-fine n k m (matrix-fine n k m h) l in
+    record { laid = record { entities = z .entities; right = z .right; rights = z .rights; size = F .long }; below = F .below }
 
-pub whole-pass : (n k : ℕ) (m : List ℕ) → Whole n k m → checked (wholeRules n k m) ≡ Fine
+pub whole-pass : (n k : ℕ) (m : List ℕ) → Holds n k 2 m → checked (wholeRules n k m) ≡ Fine
 unfolding wholeRules
 whole-pass n k m w =
-    let z = w .sized in
-    let F = w .cells in
-    group-fine (sizeRules n k 0) (matrixRules n k m ++ fullRules n k m) (sizes-pass n k 0 (z .entities) (z .right) (z .rights) (z .domains))
-    ∙ group-fine (matrixRules n k m) (fullRules n k m) (matrix-pass n k m (record { long = F .long; below = λ i h. omega (arith, F .below i h) }))
-    ∙ full-pass n k m F
-
-pub laid : {n k : ℕ} {m : List ℕ} → Whole n k m → Laid n k m
-laid w = record { entities = w .sized .entities; right = w .sized .right; rights = w .sized .rights; size = w .cells .long }
-
-pub whole-of : {n k : ℕ} {m : List ℕ} → Good n k m → Whole n k m
-whole-of g = record {
-  sized = record { entities = g .laid .entities; right = g .laid .right; rights = g .laid .rights; domains = omega arith };
-  cells = record { long = g .laid .size; below = g .full };
-}
+    let l = w .laid in
+    group-fine (sizeRules n k 0) (matrixRules n k m ++ fullRules n k m) (sizes-pass n k 0 (l .entities) (l .right) (l .rights) (omega arith))
+    ∙ group-fine (matrixRules n k m) (fullRules n k m) (matrix-pass n k m (record { long = l .size; below = λ i h. omega (arith, w .below i h) }))
+    ∙ full-pass n k m (record { long = l .size; below = w .below })
 
 -- so no cell is unlogged
-pub whole-full : {n k : ℕ} {m : List ℕ} → Whole n k m → Full n k (cell k n m)
+pub whole-full : {n k : ℕ} {m : List ℕ} → Holds n k 2 m → Full n k (cell k n m)
 unfolding Full cell
-whole-full {n} {k} {m} w u a v h b l = w .cells .below (cellAt k n u a v) (rw (w .cells .long) (cell-inside h b l))
+whole-full {n} {k} {m} w u a v h b l = w .below (cellAt k n u a v) (rw (w .laid .size) (cell-inside h b l))
 
 -- ---- asked numbers, room
 

@@ -23,10 +23,10 @@ pub record Laid (n k : ℕ) (m : List ℕ) : Type 0 where
   pub rights : k ≤ 8
   pub size : length m ≡ n * k * n
 
--- m holds a full matrix within the limits
-pub record Good (n k : ℕ) (m : List ℕ) : Type 0 where
+-- m holds a matrix within the limits, with cells below b: 3 for any matrix, 2 for a full one
+pub record Holds (n k b : ℕ) (m : List ℕ) : Type 0 where
   pub laid : Laid n k m
-  pub full : (i : ℕ) → i < length m → getD m i 0 < 2
+  pub below : (i : ℕ) → i < length m → getD m i 0 < b
 
 -- a sender's row: its k·n cells, where they stand in the matrix
 abbrev pub rowOf : ℕ → ℕ → List ℕ → ℕ → List ℕ

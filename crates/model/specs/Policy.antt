@@ -31,6 +31,14 @@ pub record Valid (n k : ℕ) (P : Policy) : Type 0 where
   pub size : length (P .table) ≡ P .domains * k * P .domains
   pub cells : (i : ℕ) → i < length (P .table) → getD (P .table) i 0 < 2
 
+-- a policy within the limits
+pub record Within (n k : ℕ) (P : Policy) : Type 0 where
+  pub entities : n ≤ 64
+  pub right : 0 < k
+  pub rights : k ≤ 8
+  pub few : P .domains ≤ 64
+  pub valid : Valid n k P
+
 -- the table's cell for the request (u, a, v)
 unfoldable pub answer : ℕ → Policy → Cells
 answer k P u a v = cell k (P .domains) (P .table) (domainOf P u) a (domainOf P v)

@@ -4,14 +4,14 @@ ghost use mathlib.Core.List.{_++_};
 ghost use Prim.Native.Nat.{ℕ, _+_, _*_, _≤_, _<_};
 ghost use lib.ListN.{length, getD};
 ghost use lib.Seq.{sets};
-ghost use Rattle.model.specs.Policy.{policy};
+ghost use Rattle.model.specs.Matrix.{Holds};
+ghost use Rattle.model.specs.Policy.{policy, Within};
 ghost use Rattle.model.specs.Refusal.{over};
 ghost use Rattle.layout.specs.Text.{PD, AS, each, one, two, line, matrixText, policyText};
-ghost use Rattle.layout.specs.Files.{MatrixFile, PolicyFile};
 
 // The file, and its length.
 pub fn put_matrix(n: usize, k: usize, matrix: &[u8], file: &mut [u8]) -> usize
-    requires { ⌜ MatrixFile n k (now matrix) (matrixText n k (now matrix)) ⌝ }
+    requires { ⌜ Holds n k 3 (now matrix) ⌝ }
     requires { ⌜ length (matrixText n k (now matrix)) ≤ length (now file) ⌝ }
     ensures { λ r. ⌜ r ≡ length (matrixText n k (now (matrix .entry))) ⌝ }
     ensures { λ _. ⌜ now (file .exit) ≡ over (matrixText n k (now (matrix .entry))) (now (file .entry)) ⌝ }
@@ -33,7 +33,7 @@ pub fn put_policy(
     table: &[u8],
     file: &mut [u8],
 ) -> usize
-    requires { ⌜ PolicyFile n k (policy d (now assignment) (now table)) (policyText n k (policy d (now assignment) (now table))) ⌝ }
+    requires { ⌜ Within n k (policy d (now assignment) (now table)) ⌝ }
     requires { ⌜ length (policyText n k (policy d (now assignment) (now table))) ≤ length (now file) ⌝ }
     ensures { λ r. ⌜ r ≡ length (policyText n k (policy d (now (assignment .entry)) (now (table .entry)))) ⌝ }
     ensures { λ _. ⌜ now (file .exit) ≡ over (policyText n k (policy d (now (assignment .entry)) (now (table .entry)))) (now (file .entry)) ⌝ }

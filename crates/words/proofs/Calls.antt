@@ -6,18 +6,18 @@ use Prim.Native.Nat.{ℕ, _+_, _*_, _/_, _%_, _^_, _<_}
 use native.Mathlib.Omega.{arith}
 use borrow.Author.Tests.{ltb-true, eq-eqb, ne-eqb}
 use lib.Dec.{eqb, ltb}
-use lib.ListN.{length, getD}
+use lib.ListN.{getD}
 use Rattle.model.specs.declared.Checked.{Checked}
 use Rattle.model.specs.declared.Checked.the-variants.{Fine, Bad}
 use Rattle.model.specs.Matrix.{cell}
 use Rattle.model.specs.Alike.{alike?}
 use Rattle.model.specs.Policy.{Policy, answer}
 use Rattle.model.specs.Refusal.{checked, Told, values, refused, tell}
-use Rattle.model.specs.Rules.{sizeRules, wholeRules, matrixRules}
+use Rattle.model.specs.Rules.{wholeRules}
 use Rattle.model.proofs.Built.{built-few}
 use Rattle.model.proofs.Groups.{gives-bad, groups-fine}
 use Rattle.model.proofs.Places.{small}
-use Rattle.model.proofs.Rules.{whole-fine, matrix-fine}
+use Rattle.model.proofs.Rules.{whole-fine}
 use Rattle.ask.specs.Ask.{askRules, granted, askTold}
 use Rattle.alike.specs.Compare.{alikeRules, alikeTold}
 use Rattle.build.specs.Build.{builtFrom, buildRules, buildTold}
@@ -44,7 +44,7 @@ alike-held n k u v m = told-held (1 ∷ []) (alikeRules n k u v m) _ (alike-carr
 pub build-held : (n k : ℕ) (m : List ℕ) (x y : ℕ) → Held (8 ∷ []) (buildTold n k m x y)
 unfolding buildTold buildRules
 build-held n k m x y = told-held (8 ∷ []) (buildRules n k m x y) (builtFrom n k m .domains ∷ []) (build-carried n k m x y) (λ e.
-    let s = whole-fine n k m (groups-fine (wholeRules n k m) _ e .0) .sized in
+    let s = whole-fine n k m (groups-fine (wholeRules n k m) _ e .0) .laid in
     more (omega (arith, built-few n k (cell k n m), s .entities)) none)
 
 pub ask-kept : AskKept
@@ -84,17 +84,14 @@ judge-held n k m P = go (checked (judgeRules n k m P)) refl (ltb i (n * k * n)) 
     i : ℕ
     i = conflict n k m P
 
-    logged : checked (judgeRules n k m P) ≡ Fine → (j : ℕ) → j < length m → getD m j 0 < 3
-    logged e = matrix-fine n k m (groups-fine (matrixRules n k m) _ (groups-fine (sizeRules n k (P .domains)) _ e .1) .0) .below
-
     go : (c : Checked) → checked (judgeRules n k m P) ≡ c → (b : Bool) → ltb i (n * k * n) ≡ b
         → JudgeHeld (tell c (cond b (1 ∷ i ∷ getD m i 0 ∷ []) (0 ∷ P .domains ∷ [])))
     go Fine e true f =
         let J = judgeable n k m P e in
         let h = ltb-true i (n * k * n) f in
-        let s = small (J .matrix .entities) (J .matrix .rights) (J .matrix .entities) in
-        conflicting i (getD m i 0) (omega (arith, s .cells)) (omega (arith, logged e i (omega (arith, J .matrix .size))))
-    go Fine e false f = enforcing (P .domains) (omega (arith, judgeable n k m P e .few))
+        let l = J .0 .laid in
+        conflicting i (getD m i 0) (omega (arith, small (l .entities) (l .rights) (l .entities) .cells)) (omega (arith, J .0 .below i (omega (arith, l .size))))
+    go Fine e false f = enforcing (P .domains) (omega (arith, judgeable n k m P e .1 .few))
     go (Bad r) e b f = refusing r (gives-bad Carried (judgeRules n k m P) (judge-carried n k m P) r e)
 
 pub judge-kept : JudgeKept

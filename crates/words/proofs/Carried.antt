@@ -56,7 +56,7 @@ alike-carried n k u v m = gives-group Carried (wholeRules n k m) (pairRules n u 
 pub build-carried : (n k : ℕ) (m : List ℕ) (x y : ℕ) → Gives Carried (buildRules n k m x y)
 unfolding buildRules
 build-carried n k m x y = gives-group Carried (wholeRules n k m) _ (whole-carried n k m) (λ e.
-    let s = whole-fine n k m e .sized in
+    let s = whole-fine n k m e .laid in
     let d : builtFrom n k m .domains ≤ 64 = omega (arith, built-few n k (cell k n m), s .entities) in
     gives-group Carried (roomRules 10 x n) (roomRules 11 y (tableSize n k m)) (room-carried 10 x n (omega arith) (omega arith) (omega (arith, s .entities)))
     (λ _. room-carried 11 y (tableSize n k m) (omega arith) (omega arith) (omega (arith, small d (s .rights) d .cells))))

@@ -10,8 +10,8 @@ use lib.ListN.{length, take}
 use Rattle.model.specs.declared.Refusal.{Refusal}
 use Rattle.model.specs.declared.Checked.{Checked}
 use Rattle.model.specs.declared.Checked.the-variants.{Fine, Bad}
-use Rattle.model.specs.Matrix.{cell}
-use Rattle.model.specs.Policy.{Policy, written}
+use Rattle.model.specs.Matrix.{cell, Holds}
+use Rattle.model.specs.Policy.{written, Within}
 use Rattle.model.specs.Refusal.{Rule, checked, refusal, cellRefusal, refused, over}
 use Rattle.model.specs.Rules.{lowest, lowestRule, sizeRules, matrixRules, fullRules, wholeRules, roomRules}
 use Rattle.model.proofs.Built.{built-few, built-valid}
@@ -19,7 +19,7 @@ use Rattle.model.proofs.Groups.{fine-not-bad, group-fine, group-bad, gives-bad,
 use Rattle.model.proofs.Places.{Small, small}
 use Rattle.model.proofs.Rules.{lowest-some, sizes-pass, matrix-pass, room-pass, whole-fine, whole-full}
 use Rattle.layout.specs.Text.{policyText}
-use Rattle.layout.specs.Files.{MatrixFile, PolicyFile, MatrixFormed, Malformed}
+use Rattle.layout.specs.Files.{MatrixFile, MatrixFormed, Malformed}
 use Rattle.layout.proofs.Contents.{matrix-short, policy-short}
 use Rattle.layout.proofs.Faults.{place-short}
 use Rattle.build.specs.declared.Built.{Built}
@@ -45,14 +45,14 @@ pub record Shown (r : Refusal) : Type 0 where
   pub number : r .number < 100
   pub place : r .place < 100000
 
-module _ {n k : ℕ} {m s : List ℕ} (f : MatrixFile n k m s) where
+module _ {n k : ℕ} {m : List ℕ} (f : Holds n k 3 m) where
   -- the first rules do not apply
   pub whole-four : checked (wholeRules n k m) ≡ checked (fullRules n k m)
   unfolding wholeRules
   whole-four =
       let l = f .laid in
       group-fine (sizeRules n k 0) (matrixRules n k m ++ fullRules n k m) (sizes-pass n k 0 (l .entities) (l .right) (l .rights) (omega arith))
-      ∙ group-fine (matrixRules n k m) (fullRules n k m) (matrix-pass n k m (record { long = l .size; below = f .cells }))
+      ∙ group-fine (matrixRules n k m) (fullRules n k m) (matrix-pass n k m (record { long = l .size; below = f .below }))
 
   few : builtFrom n k m .domains ≤ 64
   few = omega (arith, built-few n k (cell k n m), f .laid .entities)
@@ -77,14 +77,13 @@ module _ {n k : ℕ} {m s : List ℕ} (f : MatrixFile n k m s) where
   -- ---- 4 does not apply
 
   module _ (fine : checked (fullRules n k m) ≡ Fine) where
-    pub built-file : PolicyFile n k (builtFrom n k m) (policyText n k (builtFrom n k m))
-    built-file = record {
+    pub built-within : Within n k (builtFrom n k m)
+    built-within = record {
       entities = f .laid .entities;
       right = f .laid .right;
       rights = f .laid .rights;
-      domains = few;
+      few = few;
       valid = built-valid n k (cell k n m) (whole-full (whole-fine n k m (whole-four ∙ fine)));
-      text = refl;
     }
 
     pub answer-built : answerText n k m ≡ policyText n k (builtFrom n k m)
@@ -118,11 +117,11 @@ pub record Stands (n k : ℕ) (m : List ℕ) (d : ℕ) (s t : List ℕ) : Type 0
   pub small : Small d k d
   pub names : n ≡ length (take n s)
   pub size : d * k * d ≡ length (take (d * k * d) t)
-  pub file : PolicyFile n k (written n k d s t) (policyText n k (written n k d s t))
+  pub within : Within n k (written n k d s t)
   pub enough : length (policyText n k (written n k d s t)) ≤ longest
   pub answer : policyText n k (written n k d s t) ≡ answerText n k m
 
-module _ {n k : ℕ} {m x : List ℕ} (f : MatrixFile n k m x) (s t s′ t′ : List ℕ) (hs : 64 ≤ length s) (ht : 32768 ≤ length t) where
+module _ {n k : ℕ} {m : List ℕ} (f : Holds n k 3 m) (s t s′ t′ : List ℕ) (hs : 64 ≤ length s) (ht : 32768 ≤ length t) where
   pub built-stands : {r : Built} (d : ℕ) → r ≡ Domains d → Builds n k m s t r s′ t′ → Stands n k m d s′ t′
   unfolding buildTold
   built-stands d q w =
@@ -131,13 +130,13 @@ module _ {n k : ℕ} {m x : List ℕ} (f : MatrixFile n k m x) (s t s′ t′ : 
       let (passed, _) = told-fine (checked (buildRules n k m (length s) (length t))) (d ∷ []) (P .domains ∷ []) (b .told) in
       let fine = sym (only-four f (length s) (length t) hs ht) ∙ passed in
       let same = sym (policy-written n k m s t s′ t′ d b) in
-      let file = subst (λ (Q : Policy). PolicyFile n k Q (policyText n k Q)) same (built-file f fine) in
+      let z = subst (Within n k) same (built-within f fine) in
       record {
-        small = small (file .domains) (f .laid .rights) (file .domains);
-        names = sym (file .valid .entities);
-        size = sym (file .valid .size);
-        file = file;
-        enough = policy-short file;
+        small = small (z .few) (z .rights) (z .few);
+        names = sym (z .valid .entities);
+        size = sym (z .valid .size);
+        within = z;
+        enough = policy-short (record { within = z; text = refl });
         answer = sym (answer-built f fine ∙ ap (policyText n k) same);
       }
 
@@ -169,7 +168,7 @@ module _ (s x x′ : List ℕ) where
 
       go : MatrixRead s x (refused r) x′ → Shown r × Woven s (refusalText r)
       go (formed n k m f t _) =
-          let l = f .laid in
+          let l = f .matrix .laid in
           let roomy = room-pass 11 (length x) (length m) (omega (arith, l .size, small (l .entities) (l .rights) (l .entities) .cells)) in
           absurd (fine-not-bad (matrixRoom m x) r roomy (told-bad (matrixRoom m x) r (n ∷ k ∷ []) t))
       go (malformed p m t _) = let e : r ≡ refusal 12 p = cc in twelve p m e

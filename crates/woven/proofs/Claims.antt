@@ -22,7 +22,7 @@ use Rattle.model.specs.Rules.{lowest, lowestRule, matrixRules, fullRules, roomR
 use Rattle.model.proofs.Below.{first-is}
 use Rattle.model.proofs.Places.{small}
 use Rattle.model.proofs.Groups.{checked-applies, told-fine, tell-fine, tell-bad, held-bad}
-use Rattle.model.proofs.Rules.{lowest-bad, matrix-fine, room-pass, room-fine, whole-pass, whole-of}
+use Rattle.model.proofs.Rules.{lowest-bad, matrix-fine, room-pass, room-fine, whole-pass}
 use Rattle.layout.specs.Text.{each, line, matrixText, policyText}
 use Rattle.layout.specs.Files.{MatrixFile, PolicyFile, MatrixFormed, PolicyFormed}
 use Rattle.layout.specs.Layout.{reach, matrixLayout}
@@ -39,7 +39,7 @@ use Rattle.filed.proofs.Write.{wrote-apart, write-unique, file-written}
 use Rattle.woven.specs.Weave.{five, refusalText, answerText, Woven, formed, malformed, longest, Weaves}
 use Rattle.woven.specs.Claims.{WovenTotal, WovenUnique, WovenPolicy, WovenRefused, WovenOnly, WovenCalls, WovenCut, example, p10, WovenExample}
 use Rattle.woven.specs.Claims.{WeaveWrites, WeaveKeeps, WeaveUnique, WeaveAlone}
-use Rattle.woven.proofs.Answers.{formed-short, whole-four, built-file, answer-built, answer-refused, four-at}
+use Rattle.woven.proofs.Answers.{formed-short, whole-four, built-within, answer-built, answer-refused, four-at}
 use Rattle.woven.proofs.Answers.{built-stands, built-refused, read-file, read-refused}
 
 -- ---- the answers
@@ -64,10 +64,10 @@ answered : {n k : ℕ} {m s t : List ℕ} → MatrixFile n k m s → Woven s t �
 answered {n} {k} {m} {s} {t} f w = woven-unique s t (answerText n k m) w (formed n k m f refl)
 
 policy-answered : {n k : ℕ} {m s t : List ℕ} → MatrixFile n k m s → checked (fullRules n k m) ≡ Fine → t ≡ answerText n k m → PolicyFile n k (builtFrom n k m) t
-policy-answered {n} {k} {m} {s} {t} f fine e = subst (PolicyFile n k (builtFrom n k m)) (sym (e ∙ answer-built f fine)) (built-file f fine)
+policy-answered {n} {k} {m} {s} {t} f fine e = record { within = built-within (f .matrix) fine; text = e ∙ answer-built (f .matrix) fine }
 
 pub woven-policy : WovenPolicy
-woven-policy n k m s t f g w = policy-answered f (sym (whole-four f) ∙ whole-pass n k m (whole-of g)) (answered f w)
+woven-policy n k m s t f g w = policy-answered f (sym (whole-four (f .matrix)) ∙ whole-pass n k m g) (answered f w)
 
 -- 4 with the lowest unlogged cell
 four-bad : (n k : ℕ) (m : List ℕ) (i : ℕ) → i < length m → getD m i 0 ≡ 2 → ((j : ℕ) → j < i → getD m j 0 < 2)
@@ -84,7 +84,7 @@ woven-refused s t i w = (gap, λ z. woven-unique s t (refusalText (refusal 12 i)
   where
     gap : (n k : ℕ) (m : List ℕ) → MatrixFile n k m s → i < length m → getD m i 0 ≡ 2 → ((j : ℕ) → j < i → getD m j 0 < 2)
         → t ≡ refusalText (cellRefusal 4 k n i)
-    gap n k m f h e b = answered f w ∙ answer-refused f (cellRefusal 4 k n i) (sym (four-bad n k m i h e b))
+    gap n k m f h e b = answered f w ∙ answer-refused (f .matrix) (cellRefusal 4 k n i) (sym (four-bad n k m i h e b))
 
 pub woven-only : WovenOnly
 unfolding refusalText refusal cellRefusal
@@ -95,17 +95,19 @@ woven-only s t (formed n k m f e) = go (checked (fullRules n k m)) refl
         → PolicyFormed t ⊎ ((p : ℕ) × (p < 100000) × ((t ≡ line (78 ∷ 79 ∷ 49 ∷ 50 ∷ five p)) ⊎ (t ≡ line (78 ∷ 79 ∷ 48 ∷ 52 ∷ five p))))
     go Fine q = inl (n, k, builtFrom n k m, policy-answered f q e)
     go (Bad r) q =
-        let (i, h, z) = four-at f r q in
-        let l = f .laid in
-        inr (i, omega (arith, h, l .size, small (l .entities) (l .rights) (l .entities) .cells), inr (e ∙ answer-refused f r q ∙ ap refusalText z))
+        let (i, h, z) = four-at (f .matrix) r q in
+        let l = f .matrix .laid in
+        inr (i, omega (arith, h, l .size, small (l .entities) (l .rights) (l .entities) .cells), inr (e ∙ answer-refused (f .matrix) r q ∙ ap refusalText z))
 
 pub woven-calls : WovenCalls
 woven-calls s x x′ room = (
   λ r e. read-refused s x x′ r refl room e .1,
   λ n k e a b a′ b′ h l.
       let f = read-file s x x′ n k refl e in (
-        λ r w. formed n k _ f (built-refused f a b a′ b′ h l r refl w .1),
-        λ d size g g′ w z. formed n k _ f (file-written n k size g g′ .1 (written n k d a′ b′) z .0 .text ∙ built-stands f a b a′ b′ h l d refl w .answer),
+        λ r w. formed n k _ f (built-refused (f .matrix) a b a′ b′ h l r refl w .1),
+        λ d size g g′ w z.
+            let wrote = file-written n k size g g′ .1 (written n k d a′ b′) z in
+            formed n k _ f (wrote .0 .text ∙ built-stands (f .matrix) a b a′ b′ h l d refl w .answer),
       ),
 )
 
@@ -123,8 +125,10 @@ woven-cut s t = (long, short)
 -- the file of nine cells of three entities
 nine : (m s : List ℕ) → length m ≡ 9 → checked (matrixRules 3 1 m) ≡ Fine → s ≡ matrixText 3 1 m → MatrixFile 3 1 m s
 nine m s size fine text = record {
-  laid = record { entities = omega arith; right = omega arith; rights = omega arith; size = size };
-  cells = matrix-fine 3 1 m fine .below;
+  matrix = record {
+    laid = record { entities = omega arith; right = omega arith; rights = omega arith; size = size };
+    below = matrix-fine 3 1 m fine .below;
+  };
   text = text;
 }
 
@@ -147,7 +151,7 @@ woven-short {s} {t} (formed n k m f e) = go (checked (fullRules n k m)) refl
   where
     go : (c : Checked) → checked (fullRules n k m) ≡ c → length t ≤ longest
     go Fine q = policy-short (policy-answered f q e)
-    go (Bad r) q = omega (arith, ap length (e ∙ answer-refused f r q))
+    go (Bad r) q = omega (arith, ap length (e ∙ answer-refused (f .matrix) r q))
 
 -- ---- the call
 

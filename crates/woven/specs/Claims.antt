@@ -5,7 +5,7 @@ use mathlib.Core.List.{List, [], _∷_, _++_}
 use Prim.Native.Nat.{ℕ, _*_, _≤_, _<_}
 use lib.ListN.{length, getD, take, drop}
 use Rattle.model.specs.declared.Refusal.{Refusal}
-use Rattle.model.specs.Matrix.{Good}
+use Rattle.model.specs.Matrix.{Holds}
 use Rattle.model.specs.Policy.{written}
 use Rattle.model.specs.Refusal.{refusal, cellRefusal}
 use Rattle.layout.specs.Text.{line}
@@ -29,7 +29,7 @@ WovenUnique = (s t t′ : List ℕ) → Woven s t → Woven s t′ → t ≡ t�
 
 -- demand 2: the file of a full matrix is answered by the file of its built policy
 abbrev pub WovenPolicy : Type 0
-WovenPolicy = (n k : ℕ) (m s t : List ℕ) → MatrixFile n k m s → Good n k m → Woven s t → PolicyFile n k (builtFrom n k m) t
+WovenPolicy = (n k : ℕ) (m s t : List ℕ) → MatrixFile n k m s → Holds n k 2 m → Woven s t → PolicyFile n k (builtFrom n k m) t
 
 -- that of a matrix with gaps by the line of 4 with the lowest unlogged cell, and an input that is no file by that of 12 with its place
 abbrev pub WovenRefused : Type 0

@@ -1,6 +1,6 @@
 -- The exits of the two tests. The groups of rules stand one after the other; where none applies the matrix or the policy is within the
 -- limits, and there is room for its file. Assumes nothing.
-use mathlib.Core.Path.{_≡_, refl, sym, ap, _∙_}
+use mathlib.Core.Path.{_≡_, sym, ap, _∙_}
 use mathlib.Core.List.{List, _++_}
 use Prim.Native.Nat.{ℕ, _+_, _*_, _≤_}
 use native.Mathlib.Omega.{arith}
@@ -8,13 +8,13 @@ use lib.ListN.{length}
 use Rattle.model.specs.declared.Refusal.{Refusal}
 use Rattle.model.specs.declared.Checked.{Checked}
 use Rattle.model.specs.declared.Checked.the-variants.{Fine, Bad}
-use Rattle.model.specs.Policy.{Policy, domainOf}
+use Rattle.model.specs.Matrix.{Holds}
+use Rattle.model.specs.Policy.{Policy, Within, domainOf}
 use Rattle.model.specs.Refusal.{Rule, checked}
 use Rattle.model.specs.Rules.{sizeRules, matrixRules, assignmentRules, tableRules, roomRules}
 use Rattle.model.proofs.Groups.{group-fine, group-bad, groups-fine}
 use Rattle.model.proofs.Rules.{sizes-fine, matrix-fine, assignment-fine, table-fine, room-fine}
 use Rattle.layout.specs.Text.{matrixText, policyText}
-use Rattle.layout.specs.Files.{MatrixFile, PolicyFile}
 use Rattle.layout.proofs.Contents.{matrix-length, policy-length}
 use Rattle.writable.specs.Rules.{matrixWriteRules, policyWriteRules}
 
@@ -42,17 +42,13 @@ module _ (n k : ℕ) (m : List ℕ) (room : ℕ) where
         ∙ sym (group-fine (sizeRules n k 0) cells-room sized ∙ group-fine (matrixRules n k m) (roomRules 11 room (length (matrixText n k m))) e)
 
   module _ (fine : checked (matrixWriteRules n k m room) ≡ Fine) where
-    pub matrix-writable : MatrixFile n k m (matrixText n k m)
+    pub matrix-writable : Holds n k 3 m
     unfolding matrixWriteRules
     matrix-writable =
         let (a, b) = groups-fine (sizeRules n k 0) (matrixRules n k m ++ roomRules 11 room (length (matrixText n k m))) fine in
         let s = sizes-fine n k 0 a in
         let f = matrix-fine n k m (groups-fine (matrixRules n k m) (roomRules 11 room (length (matrixText n k m))) b .0) in
-        record {
-          laid = record { entities = s .entities; right = s .right; rights = s .rights; size = f .long };
-          cells = f .below;
-          text = refl;
-        }
+        record { laid = record { entities = s .entities; right = s .right; rights = s .rights; size = f .long }; below = f .below }
 
     pub matrix-enough : length (matrixText n k m) ≤ room
     unfolding matrixWriteRules
@@ -99,7 +95,7 @@ module _ (n k : ℕ) (P : Policy) (room : ℕ) where
           ∙ sym (to-table ∙ group-fine (tableRules k d (P .table)) last e)
 
   module _ (fine : checked (policyWriteRules n k P room) ≡ Fine) where
-    pub policy-writable : PolicyFile n k P (policyText n k P)
+    pub policy-writable : Within n k P
     unfolding policyWriteRules domainOf
     policy-writable =
         let (a, b) = groups-fine (sizeRules n k d) names-last fine in
@@ -111,9 +107,8 @@ module _ (n k : ℕ) (P : Policy) (room : ℕ) where
           entities = s .entities;
           right = s .right;
           rights = s .rights;
-          domains = s .domains;
+          few = s .domains;
           valid = record { entities = l .long; below = λ u h. l .below u (omega (arith, l .long)); size = t .long; cells = t .below };
-          text = refl;
         }
 
     pub policy-enough : length (policyText n k P) ≤ room

@@ -6,7 +6,6 @@ use lib.ListN.{length}
 use Rattle.model.specs.declared.Checked.the-variants.{Fine}
 use Rattle.model.specs.Refusal.{checked}
 use Rattle.model.specs.Rules.{wholeRules, roomRules}
-use Rattle.model.proofs.Rules.{laid}
 use Rattle.build.proofs.Exits.{early-bad, whole, room, numbers-long, members-in, wrote}
 use borrow.Author.Needs.{needs}
 use Rattle.build.proofs.build.Tie as tie
@@ -45,7 +44,7 @@ classify-requires : tie.Need-classify-requires
 classify-requires c κs =
     let w = c .before .before in
     let a = start w .args in
-    let l = laid (whole (a .n) (a .k) (a .matrix .now) (a .assignment .now) (a .table .now) (fine w)) in
+    let l = whole (a .n) (a .k) (a .matrix .now) (a .assignment .now) (a .table .now) (fine w) .laid in
     (l, (l .entities, l .entities))
 
 slice-aggregate-write : tie.Need-slice-aggregate-write
@@ -59,7 +58,7 @@ write-requires c κs =
     let w = c .before .before .before .before .before .before .before .before .before in
     let a = start w .args in
     let q = c .before .before .before .before .before .before .classify .ensures in (
-      laid (whole (a .n) (a .k) (a .matrix .now) (a .assignment .now) (a .table .now) (fine w)),
+      whole (a .n) (a .k) (a .matrix .now) (a .assignment .now) (a .table .now) (fine w) .laid,
       (
         members-in (a .n) (a .k) (a .matrix .now) (a .assignment .now) (a .table .now) (fine w) _ _ _ _ _ (q .0) (q .1 .0) (q .1 .1),
         (

@@ -44,7 +44,7 @@ u r = r .before .before .before .before .cells .u
 row : (r : Row) → let e = entry r .args in
     let p = getD (e .assignment .now) (u r) 0 in
     Steps (e .d) (e .k) (e .d) p (r .before .loop .a) p
-row r = table-steps (entry r .pre) (omega arith) (omega arith) (omega arith)
+row r = table-steps (entry r .pre .1) (omega arith) (omega arith) (omega arith)
 
 -- at a cell: its row, where the table's cell stands, and that its own place is inside the matrix
 abbrev Cell : Type 0
@@ -56,10 +56,10 @@ back c = c .before .before
 answer : (c : Cell) → let e = entry (back c) .args in
     let s = e .assignment .now in
     Steps (e .d) (e .k) (e .d) (getD s (u (back c)) 0) (back c .before .loop .a) (getD s (c .before .loop2 .v) 0)
-answer c = table-steps (entry (back c) .pre) (omega arith) (omega arith) (omega arith)
+answer c = table-steps (entry (back c) .pre .1) (omega arith) (omega arith) (omega arith)
 
 logged : (c : Cell) → c .before .loop2 .cell < length (entry (back c) .args .matrix .now)
-logged c = inside (c .before .loop2 .inv .1) (omega arith) (omega arith) (omega arith) (entry (back c) .pre)
+logged c = inside (c .before .loop2 .inv .1) (omega arith) (omega arith) (omega arith) (entry (back c) .pre .0)
 
 cells-holds : tie.Need-cells-holds Inv-loop2 μ-loop2 Inv-loop μ-loop Inv-cells μ-cells
 cells-holds c = (omega arith, record { place = omega arith; none = first-zero _ })
@@ -89,7 +89,7 @@ shared-slice-read-contradicts : tie.Need-shared-slice-read-contradicts Inv-loop2
 shared-slice-read-contradicts c = logged (c .before)
 
 shared-slice-read-contradicts-2 : tie.Need-shared-slice-read-contradicts-2 Inv-loop2 μ-loop2 Inv-loop μ-loop Inv-cells μ-cells
-shared-slice-read-contradicts-2 c = omega (arith, entry (back (c .before .before)) .pre .policy .entities)
+shared-slice-read-contradicts-2 c = omega (arith, entry (back (c .before .before)) .pre .1 .valid .entities)
 
 cast-contradicts : tie.Need-cast-contradicts Inv-loop2 μ-loop2 Inv-loop μ-loop Inv-cells μ-cells
 cast-contradicts c =
@@ -103,19 +103,19 @@ add-contradicts c = let s = c .before .before in omega (arith, row (back s) .pla
 shared-slice-read-contradicts-3 : tie.Need-shared-slice-read-contradicts-3 Inv-loop2 μ-loop2 Inv-loop μ-loop Inv-cells μ-cells
 shared-slice-read-contradicts-3 c =
     let s = c .before .before .before in
-    omega (arith, row (back s) .inside, answer s .inside, entry (back s) .pre .policy .size)
+    omega (arith, row (back s) .inside, answer s .inside, entry (back s) .pre .1 .valid .size)
 
 contradicts-requires : tie.Need-contradicts-requires Inv-loop2 μ-loop2 Inv-loop μ-loop Inv-cells μ-cells
 contradicts-requires c κs =
     let s = c .before .before .before in
-    let P = entry (back s) .pre .policy in
+    let P = entry (back s) .pre .1 .valid in
     P .cells _ (omega (arith, row (back s) .inside, answer s .inside, P .size))
 
 add-cell : tie.Need-add-cell Inv-loop2 μ-loop2 Inv-loop μ-loop Inv-cells μ-cells
 add-cell c = omega (arith, logged (c .before .before .before .before .before))
 
 add-v : tie.Need-add-v Inv-loop2 μ-loop2 Inv-loop μ-loop Inv-cells μ-cells
-add-v c = omega (arith, entry (back (c .before .before .before .before .before)) .pre .matrix .entities)
+add-v c = omega (arith, entry (back (c .before .before .before .before .before)) .pre .0 .entities)
 
 loop2-less : tie.Need-loop2-less Inv-loop2 μ-loop2 Inv-loop μ-loop Inv-cells μ-cells
 loop2-less c = omega arith

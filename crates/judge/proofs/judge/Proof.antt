@@ -37,7 +37,10 @@ enum-told : tie.Need-enum-told
 enum-told c = search needs
 
 first-conflict-requires : tie.Need-first-conflict-requires
-first-conflict-requires c κs = let a = entry c .args in judgeable (a .n) (a .k) (a .matrix .now) (P c) (fine c)
+first-conflict-requires c κs =
+    let a = entry c .args in
+    let J = judgeable (a .n) (a .k) (a .matrix .now) (P c) (fine c) in
+    (J .0 .laid, J .1)
 
 shared-slice-read-logged : tie.Need-shared-slice-read-logged
 shared-slice-read-logged c = search needs

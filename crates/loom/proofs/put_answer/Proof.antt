@@ -63,7 +63,7 @@ slice-aggregate-put-policy-2 : tie.Need-slice-aggregate-put-policy-2
 slice-aggregate-put-policy-2 c = stands (c .before .before) .size
 
 put-policy-requires : tie.Need-put-policy-requires
-put-policy-requires c κs = let w = stands (c .before .before .before) in (w .file, omega (arith, w .enough))
+put-policy-requires c κs = let w = stands (c .before .before .before) in (w .within, omega (arith, w .enough))
 
 enum-known-built-2 : tie.Need-enum-known-built-2
 enum-known-built-2 c = search needs

@@ -30,7 +30,7 @@ file : (c : tie.After-known-told)
 file c = read-file _ _ _ _ _ (c .before .read .given .1) (done c .read-matrix .ensures)
 
 sizes : (c : tie.After-known-told) → let n = c .before .read .given .0 .0 in Small n (c .before .read .given .0 .1 .0) n
-sizes c = let l = file c .laid in small (l .entities) (l .rights) (l .entities)
+sizes c = let l = file c .matrix .laid in small (l .entities) (l .rights) (l .entities)
 
 -- or the refusal
 shown : (c : tie.After-known-told2)
@@ -54,12 +54,11 @@ slice-reshare-prefix-put-answer : tie.Need-slice-reshare-prefix-put-answer
 slice-reshare-prefix-put-answer c = omega (arith, sizes c .cells)
 
 slice-aggregate-put-answer : tie.Need-slice-aggregate-put-answer
-slice-aggregate-put-answer c = omega (arith, file (c .before) .laid .size)
+slice-aggregate-put-answer c = omega (arith, file (c .before) .matrix .laid .size)
 
 put-answer-requires : tie.Need-put-answer-requires
 put-answer-requires c κs =
-    let f = file (c .before .before .before .before) in
-    (record { laid = f .laid; cells = f .cells; text = refl }, (omega arith, omega arith, omega arith))
+    (file (c .before .before .before .before) .matrix, (omega arith, omega arith, omega arith))
 
 enum-known-read-2 : tie.Need-enum-known-read-2
 enum-known-read-2 c = search needs

@@ -13,7 +13,7 @@ use Rattle.texts.proofs.put_policy.Statement.{statement}
 use Rattle.texts.proofs.put_policy.Tie as tie
 
 limits : (c : tie.After-slice-known) → let a = c .before .before .before .args in Short (a .d) (a .k)
-limits c = let f = c .before .before .before .pre .0 in short (f .domains) (f .rights)
+limits c = let f = c .before .before .before .pre .0 in short (f .few) (f .rights)
 
 -- the room that there is
 room : (c : tie.After-slice-known) → let a = c .before .before .before .args in 14 + a .n * 2 + a .d * (a .k * a .d + 5) ≤ length (a .file .now)
@@ -25,7 +25,7 @@ room c =
 members : (c : tie.After-slice-known)
     → let a = c .before .before .before .args in (i : ℕ) → i < length (a .assignment .now) → getD (a .assignment .now) i 0 < 100
 unfolding domainOf
-members c i h = let f = c .before .before .before .pre .0 in omega (arith, f .valid .below i (omega (arith, f .valid .entities)), f .domains)
+members c i h = let f = c .before .before .before .pre .0 in omega (arith, f .valid .below i (omega (arith, f .valid .entities)), f .few)
 
 mul-from : tie.Need-mul-from
 mul-from c = search needs
@@ -49,7 +49,7 @@ put-head-requires : tie.Need-put-head-requires
 put-head-requires c κs =
     let w = c .before in
     let f = w .before .before .before .pre .0 in
-    (omega (arith, f .entities), omega (arith, f .rights), omega (arith, f .domains), omega (arith, room w))
+    (omega (arith, f .entities), omega (arith, f .rights), omega (arith, f .few), omega (arith, room w))
 
 put-assigned-requires : tie.Need-put-assigned-requires
 put-assigned-requires c κs =
@@ -67,7 +67,7 @@ put-records-requires c κs =
     let w = c .before .before .before .before .before .before .before .before .before .before in
     let a = w .before .before .before .args in
     let f = w .before .before .before .pre .0 in
-    (omega arith, omega (arith, f .domains), omega (arith, room w), omega (arith, f .valid .size, mul-assoc (a .d) (a .k) (a .d)))
+    (omega arith, omega (arith, f .few), omega (arith, room w), omega (arith, f .valid .size, mul-assoc (a .d) (a .k) (a .d)))
 
 put-close-requires : tie.Need-put-close-requires
 put-close-requires c κs =
