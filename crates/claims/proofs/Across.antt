@@ -3,15 +3,16 @@
 use mathlib.Core.Path.{_≡_, refl, sym, ap, _∙_, subst}
 use mathlib.Core.Logic.{_↔_}
 use mathlib.Core.List.{List}
-use Prim.Native.Nat.{ℕ, _<_}
+use Prim.Native.Nat.{ℕ, _≤_, _<_}
+use native.Mathlib.Nat.{le-trans}
 use native.Mathlib.Omega.{arith}
 use lib.ListN.{getD}
 use Rattle.model.specs.declared.Checked.the-variants.{Fine}
 use Rattle.model.specs.Matrix.{cell, Holds, Full}
-use Rattle.model.specs.Policy.{Policy, written, Within, domainOf, answer, Agrees}
+use Rattle.model.specs.Policy.{Policy, written, Within, domainOf, answer, Agrees, used}
 use Rattle.model.specs.Refusal.{checked, Unrefused}
 use Rattle.model.specs.Rules.{wholeRules, pairRules}
-use Rattle.model.proofs.Built.{built-few, built-cell, built-alike, built-valid, built-enforces, built-together, built-fewest}
+use Rattle.model.proofs.Built.{built-few, built-used, built-cell, built-alike, built-valid, built-enforces, built-together, built-fewest}
 use Rattle.model.proofs.Groups.{group-fine}
 use Rattle.model.proofs.Rules.{whole-full, whole-pass, pair-pass}
 use Rattle.ask.specs.declared.Asked.{Asked}
@@ -28,7 +29,7 @@ use Rattle.claims.specs.Across.{BuiltAccepted, BuiltAnswers, BuiltShares
 use Rattle.claims.proofs.Ask.{ask-grants, ask-serves}
 use Rattle.claims.proofs.Alike.{alike-answers}
 use Rattle.build.proofs.Written.{domains-told, whole-built, policy-written, byte-written}
-use Rattle.claims.proofs.Judge.{judge-accepts, judge-serves}
+use Rattle.claims.proofs.Judge.{enforcing, judge-accepts, judge-serves}
 
 -- of a build that answered d and left s′ and t′: the matrix is full, and what was written is the built policy
 module _ (n k d : ℕ) (m s t s′ t′ : List ℕ) (b : Builds n k m s t (Domains d) s′ t′) where
@@ -47,13 +48,28 @@ module _ (n k d : ℕ) (m s t s′ t′ : List ℕ) (b : Builds n k m s t (Domai
       let few = built-few n k (cell k n m) in
       record { entities = l .entities; right = l .right; rights = l .rights; few = omega (arith, few); valid = built-valid n k (cell k n m) full }
 
+  judged : Unrefused (judgeRules n k m (builtFrom n k m))
+  judged = judge-serves n k m (builtFrom n k m) (record { laid = whole .laid; below = λ i h. omega (arith, whole .below i h) }) within
+
   accepted : (P : Policy) → P ≡ builtFrom n k m → (j : Judged) → Judges n k m P j → j ≡ Enforces d
   accepted P e j p = judge-accepts n k m P j p d .1 (
-    subst (λ (Q : Policy). Unrefused (judgeRules n k m Q)) (sym e) (judge-serves n k m (builtFrom n k m)
-        (record { laid = whole .laid; below = λ i h. omega (arith, whole .below i h) }) within),
+    subst (λ (Q : Policy). Unrefused (judgeRules n k m Q)) (sym e) judged,
     subst (λ (Q : Policy). Agrees n k (cell k n m) (answer k Q)) (sym e) (built-enforces n k (cell k n m)),
     domains-told n k m s t s′ t′ d b ∙ ap (λ (Q : Policy). Q .domains) (sym e),
   )
+
+  -- no accepted policy has fewer than d domains with a member, and the built one, which is accepted, has d
+  at-least : (P : Policy) (x : ℕ) → Judges n k m P (Enforces x) → d ≤ used n P
+  at-least P x p =
+      let a = judge-accepts n k m P (Enforces x) p x .0 refl in
+      let fewest = built-fewest n k (cell k n m) full P (judgeable n k m P (a .0) .1 .valid) (a .1) in
+      omega (arith, domains-told n k m s t s′ t′ d b, fewest)
+
+  at-most : (e : ℕ) → ((P : Policy) (x : ℕ) → Judges n k m P (Enforces x) → e ≤ used n P) → e ≤ d
+  at-most e f =
+      let told = domains-told n k m s t s′ t′ d b in
+      let accepts = enforcing n k m (builtFrom n k m) judged (built-enforces n k (cell k n m)) d told in
+      omega (arith, told, built-used n k (cell k n m), f (builtFrom n k m) d accepts)
 
   module _ (u a v : ℕ) (hu : u < n) (ha : a < k) (hv : v < n) where
     serves : (P : Policy) → P ≡ builtFrom n k m → Unrefused (askRules n k u a v P)
@@ -109,7 +125,7 @@ alike-shares n k d m s t s′ t′ b u v hu hv r p =
     (λ e. w .1 (x .1 (y .0 e .1)), λ e. y .1 (pair-served n k d m s t s′ t′ b u v hu hv, x .0 (w .0 e)))
 
 pub accepted-fewest : AcceptedFewest
-accepted-fewest n k d m s t s′ t′ b P x p =
-    let a = judge-accepts n k m P (Enforces x) p x .0 refl in
-    let fewest = built-fewest n k (cell k n m) (full n k d m s t s′ t′ b) P (judgeable n k m P (a .0) .1 .valid) (a .1) in
-    omega (arith, domains-told n k m s t s′ t′ d b, fewest)
+accepted-fewest n k d m s t s′ t′ b e = (
+  λ f. at-most n k d m s t s′ t′ b e f,
+  λ h P x p. le-trans h (at-least n k d m s t s′ t′ b P x p),
+)

@@ -23,7 +23,7 @@ use Rattle.model.proofs.Rules.{sizes-pass, matrix-pass, assignment-pass, table-
 use Rattle.conflicts.specs.Conflict.{conflict}
 use Rattle.judge.specs.declared.Judged.{Judged}
 use Rattle.judge.specs.declared.Judged.the-variants as judged
-use Rattle.judge.specs.Judge.{judgeRules, verdict, judgeTold, judgedTold}
+use Rattle.judge.specs.Judge.{judgeRules, verdict, judgeTold, judgedTold, Judges}
 use Rattle.claims.specs.Judge.{Contradicts, FirstConflict, JudgeAccepts, JudgeConflicts, JudgeServes, JudgeUnique}
 
 -- what is told determines the answer
@@ -136,14 +136,17 @@ module _ (n k : ℕ) (m : List ℕ) (P : Policy) where
   unfolding judgeTold
   says fine vs e = sym (tell-fine (checked (judgeRules n k m P)) fine (verdict n k m P)) ∙ ap values e
 
+  -- an enforcing policy to which no refusal applies is accepted
+  pub enforcing : Unrefused (judgeRules n k m P) → Enforces n k (cell k n m) P → (d : ℕ) → d ≡ P .domains → Judges n k m P (judged.Enforces d)
+  enforcing fine E d e = sym (says fine (0 ∷ d ∷ []) (enforced (enforces-none E) ∙ ap (λ (x : ℕ). 0 ∷ x ∷ []) (sym e)))
+
 pub judge-accepts : JudgeAccepts
 judge-accepts n k m P r j d = (
   λ e.
       let (fine, v) = shown n k m P (0 ∷ d ∷ []) (sym (ap judgedTold e) ∙ j) in
       let (E, q) = accepts n k m P d v (cases n k m P) in
       (fine, E, q),
-  λ w. told-apart r (judged.Enforces d) (j ∙ says n k m P (w .0) (0 ∷ d ∷ [])
-      (enforced n k m P (enforces-none n k m P (w .1)) ∙ ap (λ (x : ℕ). 0 ∷ x ∷ []) (sym (w .2)))),
+  λ w. told-apart r (judged.Enforces d) (j ∙ sym (enforcing n k m P (w .0) (w .1) d (w .2))),
 )
 
 pub judge-conflicts : JudgeConflicts

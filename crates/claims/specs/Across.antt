@@ -40,7 +40,8 @@ abbrev pub AlikeShares : Type 0
 AlikeShares = (n k d : ℕ) (m s t s′ t′ : List ℕ) → Builds n k m s t (Domains d) s′ t′
     → (u v : ℕ) → u < n → v < n → (r : Compared) → Compares n k u v m r → (r ≡ Yes) ↔ (getD s′ u 0 ≡ getD s′ v 0)
 
--- so every policy that judge accepts over a full matrix has at least build's number of domains with a member
+-- so every policy that judge accepts over a full matrix has at least build's number of domains with a member: a number e is no greater
+-- than any of theirs exactly if it is no greater than build's
 abbrev pub AcceptedFewest : Type 0
 AcceptedFewest = (n k d : ℕ) (m s t s′ t′ : List ℕ) → Builds n k m s t (Domains d) s′ t′
-    → (P : Policy) (x : ℕ) → Judges n k m P (Enforces x) → d ≤ used n P
+    → (e : ℕ) → ((P : Policy) (x : ℕ) → Judges n k m P (Enforces x) → e ≤ used n P) ↔ (e ≤ d)

@@ -1,6 +1,7 @@
 -- What is claimed of the two files, over any answers and buffers that meet the promises of the four calls (01, "The two files").
 -- Assumes nothing.
 use mathlib.Core.Path.{_≡_}
+use mathlib.Core.Logic.{_↔_}
 use mathlib.Core.List.{List, _∷_, _++_}
 use Prim.Native.Nat.{ℕ, _*_, _≤_, _<_}
 use lib.ListN.{length, take, drop}
@@ -73,6 +74,14 @@ Behind = (s t : List ℕ) → 0 < length t
 -- a file that begins with MX65 has place 3, and one that begins with PD03100 has place 6
 abbrev pub Examples : Type 0
 Examples = (t : List ℕ) → Malformed MatrixFormed (77 ∷ 88 ∷ 54 ∷ 53 ∷ t) 3 × Malformed PolicyFormed (80 ∷ 68 ∷ 48 ∷ 51 ∷ 49 ∷ 48 ∷ 48 ∷ t) 6
+
+-- the longest matrix file has 33,097 bytes and the longest policy file 33,230: a number e is no less than any file's length exactly if it
+-- is no less than that
+abbrev pub LongestMatrix : Type 0
+LongestMatrix = (e : ℕ) → ((s : List ℕ) → MatrixFormed s → length s ≤ e) ↔ (33097 ≤ e)
+
+abbrev pub LongestPolicy : Type 0
+LongestPolicy = (e : ℕ) → ((s : List ℕ) → PolicyFormed s → length s ≤ e) ↔ (33230 ≤ e)
 
 -- ---- writing
 

@@ -1,4 +1,7 @@
 -- The claims on the definitions: each is a law of `model`. Assumes nothing.
+use mathlib.Core.Path.{subst}
+use Prim.Native.Nat.{ℕ, _≤_}
+use native.Mathlib.Nat.{le-trans}
 use Rattle.model.proofs.Alike.{alike-iff, alike-equivalence, alike-sound, alike-complete}
 use Rattle.model.proofs.Built.{built-alike, built-smallest, built-edge, built-rises, built-used, built-few, built-valid, built-enforces}
 use Rattle.model.proofs.Built.{together-alike, built-together, built-fewest}
@@ -40,7 +43,10 @@ pub demand-3 : Demand3
 demand-3 n k M full limit b u v h l = built-together n k M full limit b u v h l
 
 pub fewest-domains : FewestDomains
-fewest-domains n k M full P ok E = built-fewest n k M full P ok E
+fewest-domains n k M full e = (
+  λ f. subst (λ (x : ℕ). e ≤ x) (built-used n k M) (f _ (built-valid n k M full) (built-enforces n k M)),
+  λ h P ok E. le-trans h (built-fewest n k M full P ok E),
+)
 
 pub filling : EnforcesFilling
 filling n k M P = enforces-filling n k M P

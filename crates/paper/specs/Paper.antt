@@ -63,9 +63,11 @@ abbrev pub Demand3 : Type 0
 Demand3 = (n k : ℕ) (M : Cells) → Full n k M → (limit : ℕ) → n ≤ limit
     → (u v : ℕ) → u < n → v < n → Share n k M u v ↔ Together limit n k M u v
 
--- so no enforcing policy has fewer domains with a member (Theorem 2.14, second half, for domains)
+-- so no enforcing policy has fewer domains with a member (Theorem 2.14, second half, for domains): a number e is no greater than any of
+-- theirs exactly if it is no greater than the built policy's
 abbrev pub FewestDomains : Type 0
-FewestDomains = (n k : ℕ) (M : Cells) → Full n k M → (P : Policy) → Valid n k P → Enforces n k M P → built n k M .domains ≤ used n P
+FewestDomains = (n k : ℕ) (M : Cells) → Full n k M
+    → (e : ℕ) → ((P : Policy) → Valid n k P → Enforces n k M P → e ≤ used n P) ↔ (e ≤ built n k M .domains)
 
 -- a policy enforces a matrix with gaps exactly if it enforces some filling of it
 abbrev pub EnforcesFilling : Type 0

@@ -42,7 +42,7 @@ module _ (ws : List ℕ) (y : ℕ) where
   unfolding unword
   unword-values e = rw (eq-eqb (y % 256) 0 e)
 
-  unword-refused : ¬ (y % 256 ≡ 0) → unword ws y ≡ refused (record { number = y % 256; place = y / 256 % 2 ^ placeBits })
+  pub unword-refused : ¬ (y % 256 ≡ 0) → unword ws y ≡ refused (record { number = y % 256; place = y / 256 % 2 ^ placeBits })
   unfolding unword
   unword-refused f = rw (ne-eqb (y % 256) 0 f)
 
@@ -76,11 +76,15 @@ unfolding fields
 fields-low [] [] none = omega arith
 fields-low (w ∷ ws) (x ∷ vs) (more h f) = rw (turned (2 ^ w) x (fields ws vs)) (digits-lt (fields-low ws vs f) h)
 
--- fields of at most 24 bits together, or a refusal, leave the upper half 0
+-- a refusal leaves the upper half 0, and so do fields of at most 24 bits together
+pub refused-low : (ws : List ℕ) (r : Refusal) → Carried r → word ws (refused r) < 2 ^ 32
+unfolding word
+refused-low ws r h = omega (arith, h .number, h .place)
+
 pub word-low : (ws : List ℕ) → room ws ≤ 2 ^ 24 → (t : Told) → Held ws t → word ws t < 2 ^ 32
 unfolding word
 word-low ws b (values vs) h = omega (arith, fields-low ws vs h)
-word-low ws b (refused r) h = omega (arith, h .number, h .place)
+word-low ws b (refused r) h = refused-low ws r h
 
 -- ---- what has room
 

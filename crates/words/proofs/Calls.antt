@@ -12,7 +12,7 @@ use Rattle.model.specs.declared.Checked.the-variants.{Fine, Bad}
 use Rattle.model.specs.Matrix.{cell}
 use Rattle.model.specs.Alike.{alike?}
 use Rattle.model.specs.Policy.{Policy, answer}
-use Rattle.model.specs.Refusal.{checked, Told, values, refused, tell}
+use Rattle.model.specs.Refusal.{refusal, checked, Told, values, refused, tell}
 use Rattle.model.specs.Rules.{wholeRules}
 use Rattle.model.proofs.Built.{built-few}
 use Rattle.model.proofs.Groups.{gives-bad, groups-fine}
@@ -25,8 +25,9 @@ use Rattle.conflicts.specs.Conflict.{conflict}
 use Rattle.judge.specs.Judge.{judgeRules, verdict, judgeTold}
 use Rattle.judge.proofs.Exits.{judgeable}
 use Rattle.word.specs.Word.{fields, word, unword, Carried, none, more, Held, JudgeHeld, enforcing, conflicting, refusing}
-use Rattle.words.specs.Calls.{judgeFields, AskKept, AlikeKept, BuildKept, JudgeKept}
-use Rattle.word.proofs.Word.{word-kept, word-low, told-held}
+use Rattle.words.specs.Calls.{judgeFields, RefusalTold, RefusalKept, AskKept, AlikeKept, BuildKept, JudgeKept}
+use Rattle.word.proofs.Word.{unword-refused, word-kept, refused-low, word-low, told-held}
+use Rattle.word.proofs.Carried.{carried}
 use Rattle.words.proofs.Carried.{ask-carried, alike-carried, build-carried, judge-carried}
 
 bit : (b : Bool) → cond b 1 0 < 2 ^ 1
@@ -46,6 +47,17 @@ unfolding buildTold buildRules
 build-held n k m x y = told-held (8 ∷ []) (buildRules n k m x y) (builtFrom n k m .domains ∷ []) (build-carried n k m x y) (λ e.
     let s = whole-fine n k m (groups-fine (wholeRules n k m) _ e .0) .laid in
     more (omega (arith, built-few n k (cell k n m), s .entities)) none)
+
+-- ---- a refusal
+
+pub refusal-told : RefusalTold
+unfolding refusal
+refusal-told ws w h = unword-refused ws w (λ e. omega arith)
+
+pub refusal-kept : RefusalKept
+refusal-kept ws number place h l b = let c = carried number place h l b in (word-kept ws _ c, refused-low ws _ c)
+
+-- ---- the calls
 
 pub ask-kept : AskKept
 ask-kept n k u a v P = let t = askTold n k u a v P in let h = ask-held n k u a v P in (word-kept (1 ∷ []) t h, word-low (1 ∷ []) (omega arith) t h)

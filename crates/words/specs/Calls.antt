@@ -5,6 +5,7 @@ use mathlib.Core.List.{List, [], _∷_}
 use Prim.Native.Nat.{ℕ, _/_, _%_, _^_, _<_}
 use lib.Dec.{eqb}
 use Rattle.model.specs.Policy.{Policy}
+use Rattle.model.specs.Refusal.{refusal, refused}
 use Rattle.ask.specs.Ask.{askTold}
 use Rattle.alike.specs.Compare.{alikeTold}
 use Rattle.build.specs.Build.{buildTold}
@@ -30,6 +31,14 @@ judgeWord n k m P = word (8 ∷ 16 ∷ 8 ∷ []) (judgeTold n k m P)
 -- what fields a word of the judge has, by its bits 8 to 15
 unfoldable pub judgeFields : ℕ → List ℕ
 judgeFields w = cond (eqb (w / 256 % 256) 0) (8 ∷ 16 ∷ []) (8 ∷ 16 ∷ 8 ∷ [])
+
+-- what a word tells of a refusal, whatever its fields are: the low byte is the number, the 24 bits above it the place
+abbrev pub RefusalTold : Type 0
+RefusalTold = (ws : List ℕ) (w : ℕ) → 0 < w % 256 → unword ws w ≡ refused (refusal (w % 256) (w / 256 % 16777216))
+
+-- so every number of a byte but 0, with every place of 24 bits, is kept
+abbrev pub RefusalKept : Type 0
+RefusalKept = (ws : List ℕ) (number place : ℕ) → 0 < number → number < 256 → place < 16777216 → Kept ws 32 (refused (refusal number place))
 
 -- nothing is lost, and the upper bits are 0
 abbrev pub AskKept : Type 0

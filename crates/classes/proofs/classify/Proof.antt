@@ -77,7 +77,7 @@ slice-write-domains : tie.Need-slice-write-domains Inv-loop μ-loop
 slice-write-domains c = omega (arith, long (c .before .before .before) .0, start c .pre .1 .0)
 
 cast-members : tie.Need-cast-members Inv-loop μ-loop
-cast-members c = omega (arith, start (c .before) .pre .0 .entities)
+cast-members c = omega (arith, under (c .before), few (c .before .before .before .before), start (c .before) .pre .0 .entities)
 
 slice-write-members : tie.Need-slice-write-members Inv-loop μ-loop
 slice-write-members c = omega (arith, few (c .before .before .before .before), long (c .before .before .before .before) .1, start (c .before) .pre .1 .1)
