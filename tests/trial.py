@@ -43,14 +43,13 @@ class Trial:
             file.write(text)
 
     def said(self, *crates):
-        """None where these crates, or all, are proved; else the crate that is not, and the first error."""
+        """None where these crates, or all, are proved; else the crate that is not, and its errors, or what was said instead."""
         run = subprocess.run(['rt', 'check', *crates], cwd=self.folder, capture_output=True, text=True, env={**os.environ, 'RT_JOBS': '1'})
         if run.returncode == 0:
             return None
         out = run.stdout + run.stderr
         crate = re.search(r'^rt: (\w+) NOT PROVED', out, re.M)
-        first = re.search(r'error: (.*)', out)
-        return (crate.group(1) if crate else '?', first.group(1)[:140] if first else out[-200:])
+        return (crate.group(1) if crate else '?', re.findall(r'error: (.*)', out) or [out[-200:]])
 
 
 def edits_of(crate):

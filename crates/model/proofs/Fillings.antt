@@ -1,7 +1,7 @@
--- A policy enforces a matrix with gaps exactly if it enforces some filling of it: the one that has what the policy grants.
--- Assumes nothing.
-use mathlib.Core.Path.{_≡_}
-use mathlib.Core.Logic.{_↔_}
+-- A filling, cell by cell; and a policy enforces a matrix with gaps exactly if it enforces some filling of it: the one that has what the
+-- policy grants. Assumes nothing.
+use mathlib.Core.Path.{_≡_, sym, _∙_}
+use mathlib.Core.Logic.{_↔_, _⊎_, inl, inr}
 use mathlib.Core.Bool.{Bool, true, false, cond}
 use Prim.Native.Nat.{ℕ, _<_}
 use native.Mathlib.Omega.{arith}
@@ -10,6 +10,34 @@ use borrow.Author.Tests.{eq-eqb, ne-eqb}
 use lib.Dec.{eqb}
 use Rattle.model.specs.Matrix.{Cells, Full, Fills}
 use Rattle.model.specs.Policy.{Policy, answer, Enforces}
+
+nought-or-one : (x : ℕ) → x < 2 → (x ≡ 0) ⊎ (x ≡ 1)
+nought-or-one x h = go (ℕ-discrete x 0)
+  where
+    go : Dec (x ≡ 0) → (x ≡ 0) ⊎ (x ≡ 1)
+    go (yes e) = inl e
+    go (no f) = inr (omega arith)
+
+low : (x : ℕ) → (x ≡ 0) ⊎ (x ≡ 1) → x < 2
+low x (inl e) = omega arith
+low x (inr e) = omega arith
+
+module _ (n k : ℕ) (M F : Cells) where
+  logged : Fills n k M F → (u a v : ℕ) → u < n → a < k → v < n → (M u a v ≡ 0) ⊎ (M u a v ≡ 1) → F u a v ≡ M u a v
+  logged f u a v h b l (inl e) = f .denies u a v h b l e ∙ sym e
+  logged f u a v h b l (inr e) = f .grants u a v h b l e ∙ sym e
+
+  pub filling-cells : Fills n k M F ↔ ((u a v : ℕ) → u < n → a < k → v < n
+      → ((F u a v ≡ 0) ⊎ (F u a v ≡ 1)) × (((M u a v ≡ 0) ⊎ (M u a v ≡ 1)) → F u a v ≡ M u a v))
+  unfolding Full
+  filling-cells = (
+    λ f u a v h b l. (nought-or-one (F u a v) (f .full u a v h b l), logged f u a v h b l),
+    λ c. record {
+      full = λ u a v h b l. low (F u a v) (c u a v h b l .0);
+      grants = λ u a v h b l e. c u a v h b l .1 (inr e) ∙ e;
+      denies = λ u a v h b l e. c u a v h b l .1 (inl e) ∙ e;
+    },
+  )
 
 -- 1 where the answer is a grant, and 0 elsewhere
 grantsOf : Cells → Cells

@@ -5,9 +5,9 @@ use native.Mathlib.Nat.{le-trans}
 use Rattle.model.proofs.Alike.{alike-iff, alike-equivalence, alike-sound, alike-complete}
 use Rattle.model.proofs.Built.{built-alike, built-smallest, built-edge, built-rises, built-used, built-few, built-valid, built-enforces}
 use Rattle.model.proofs.Built.{together-alike, built-together, built-fewest}
-use Rattle.model.proofs.Fillings.{enforces-filling}
+use Rattle.model.proofs.Fillings.{filling-cells, enforces-filling}
 use Rattle.paper.specs.Paper.{AlikeEquivalence, AlikeLines, AlikeTested, SharedAlike, TableCells, TableEdges, NumberedInOrder}
-use Rattle.paper.specs.Paper.{BuiltUsed, BuiltEnforces, TogetherAlike, Demand3, FewestDomains, EnforcesFilling}
+use Rattle.paper.specs.Paper.{BuiltUsed, BuiltEnforces, TogetherAlike, Demand3, FewestDomains, FillingCells, EnforcesFilling}
 
 pub proposition-2-12 : AlikeEquivalence
 proposition-2-12 n k M = alike-equivalence n k M
@@ -47,6 +47,9 @@ fewest-domains n k M full e = (
   λ f. subst (λ (x : ℕ). e ≤ x) (built-used n k M) (f _ (built-valid n k M full) (built-enforces n k M)),
   λ h P ok E. le-trans h (built-fewest n k M full P ok E),
 )
+
+pub definition-3-1 : FillingCells
+definition-3-1 n k M F = filling-cells n k M F
 
 pub filling : EnforcesFilling
 filling n k M P = enforces-filling n k M P

@@ -1,6 +1,6 @@
 -- What is claimed of the definitions, each under the paper's number. Assumes nothing.
 use mathlib.Core.Path.{_≡_}
-use mathlib.Core.Logic.{_↔_}
+use mathlib.Core.Logic.{_↔_, _⊎_}
 use Prim.Native.Nat.{ℕ, _≤_, _<_}
 use lib.Dec.{T}
 use Rattle.model.specs.Matrix.{Cells, cell, Full, Fills}
@@ -68,6 +68,12 @@ Demand3 = (n k : ℕ) (M : Cells) → Full n k M → (limit : ℕ) → n ≤ lim
 abbrev pub FewestDomains : Type 0
 FewestDomains = (n k : ℕ) (M : Cells) → Full n k M
     → (e : ℕ) → ((P : Policy) → Valid n k P → Enforces n k M P → e ≤ used n P) ↔ (e ≤ built n k M .domains)
+
+-- Definition 3.1: a filling has a 0 or a 1 in every cell, and what the matrix logs wherever that logs something
+abbrev pub FillingCells : Type 0
+FillingCells = (n k : ℕ) (M F : Cells)
+    → Fills n k M F ↔ ((u a v : ℕ) → u < n → a < k → v < n
+    → ((F u a v ≡ 0) ⊎ (F u a v ≡ 1)) × (((M u a v ≡ 0) ⊎ (M u a v ≡ 1)) → F u a v ≡ M u a v))
 
 -- a policy enforces a matrix with gaps exactly if it enforces some filling of it
 abbrev pub EnforcesFilling : Type 0

@@ -38,7 +38,7 @@ fields-kept (w ∷ ws) (x ∷ vs) (more h f) =
     (ap (unfields ws) (high (2 ^ w) x (fields ws vs) h) ∙ fields-kept ws vs f)
 
 module _ (ws : List ℕ) (y : ℕ) where
-  unword-values : y % 256 ≡ 0 → unword ws y ≡ values (unfields ws (y / 256))
+  pub unword-values : y % 256 ≡ 0 → unword ws y ≡ values (unfields ws (y / 256))
   unfolding unword
   unword-values e = rw (eq-eqb (y % 256) 0 e)
 

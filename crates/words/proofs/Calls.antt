@@ -1,12 +1,14 @@
 -- What each call tells has room in its word, so the word loses nothing; and its upper bits are 0. Assumes nothing.
-use mathlib.Core.Path.{_≡_, refl}
+use mathlib.Core.Path.{_≡_, refl, sym, _∙_}
 use mathlib.Core.Bool.{Bool, true, false, cond}
 use mathlib.Core.List.{List, [], _∷_}
 use Prim.Native.Nat.{ℕ, _+_, _*_, _/_, _%_, _^_, _<_}
+use native.Mathlib.Decide.{ℕ-discrete}
 use native.Mathlib.Omega.{arith}
 use borrow.Author.Tests.{ltb-true, eq-eqb, ne-eqb}
 use lib.Dec.{eqb, ltb}
 use lib.ListN.{getD}
+use Rattle.model.specs.declared.Refusal.{Refusal}
 use Rattle.model.specs.declared.Checked.{Checked}
 use Rattle.model.specs.declared.Checked.the-variants.{Fine, Bad}
 use Rattle.model.specs.Matrix.{cell}
@@ -15,7 +17,7 @@ use Rattle.model.specs.Policy.{Policy, answer}
 use Rattle.model.specs.Refusal.{refusal, checked, Told, values, refused, tell}
 use Rattle.model.specs.Rules.{wholeRules}
 use Rattle.model.proofs.Built.{built-few}
-use Rattle.model.proofs.Groups.{gives-bad, groups-fine}
+use Rattle.model.proofs.Groups.{values-refused, gives-bad, groups-fine}
 use Rattle.model.proofs.Places.{small}
 use Rattle.model.proofs.Rules.{whole-fine}
 use Rattle.ask.specs.Ask.{askRules, granted, askTold}
@@ -24,9 +26,9 @@ use Rattle.build.specs.Build.{builtFrom, buildRules, buildTold}
 use Rattle.conflicts.specs.Conflict.{conflict}
 use Rattle.judge.specs.Judge.{judgeRules, verdict, judgeTold}
 use Rattle.judge.proofs.Exits.{judgeable}
-use Rattle.word.specs.Word.{fields, word, unword, Carried, none, more, Held, JudgeHeld, enforcing, conflicting, refusing}
+use Rattle.word.specs.Word.{fields, unfields, word, unword, Carried, none, more, Held, JudgeHeld, enforcing, conflicting, refusing}
 use Rattle.words.specs.Calls.{judgeFields, RefusalTold, RefusalKept, AskKept, AlikeKept, BuildKept, JudgeKept}
-use Rattle.word.proofs.Word.{unword-refused, word-kept, refused-low, word-low, told-held}
+use Rattle.word.proofs.Word.{unword-values, unword-refused, word-kept, refused-low, word-low, told-held}
 use Rattle.word.proofs.Carried.{carried}
 use Rattle.words.proofs.Carried.{ask-carried, alike-carried, build-carried, judge-carried}
 
@@ -52,7 +54,11 @@ build-held n k m x y = told-held (8 ∷ []) (buildRules n k m x y) (builtFrom n 
 
 pub refusal-told : RefusalTold
 unfolding refusal
-refusal-told ws w h = unword-refused ws w (λ e. omega arith)
+refusal-told ws w = (λ h. unword-refused ws w (λ e. omega arith), λ e. go e (ℕ-discrete (w % 256) 0))
+  where
+    go : {r : Refusal} → unword ws w ≡ refused r → Dec (w % 256 ≡ 0) → 0 < w % 256
+    go {r} e (yes z) = absurd (values-refused (unfields ws (w / 256)) r (sym (unword-values ws w z) ∙ e))
+    go e (no f) = omega arith
 
 pub refusal-kept : RefusalKept
 refusal-kept ws number place h l b = let c = carried number place h l b in (word-kept ws _ c, refused-low ws _ c)

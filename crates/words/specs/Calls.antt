@@ -1,5 +1,6 @@
 -- The words of the calls, and that they lose nothing (include/soroluzko.h). Assumes nothing.
 use mathlib.Core.Path.{_≡_}
+use mathlib.Core.Logic.{_↔_}
 use mathlib.Core.Bool.{cond}
 use mathlib.Core.List.{List, [], _∷_}
 use Prim.Native.Nat.{ℕ, _/_, _%_, _^_, _<_}
@@ -32,9 +33,9 @@ judgeWord n k m P = word (8 ∷ 16 ∷ 8 ∷ []) (judgeTold n k m P)
 unfoldable pub judgeFields : ℕ → List ℕ
 judgeFields w = cond (eqb (w / 256 % 256) 0) (8 ∷ 16 ∷ []) (8 ∷ 16 ∷ 8 ∷ [])
 
--- what a word tells of a refusal, whatever its fields are: the low byte is the number, the 24 bits above it the place
+-- a word tells of a refusal exactly if its low byte is not 0, whatever its fields are: that is the number, the 24 bits above it the place
 abbrev pub RefusalTold : Type 0
-RefusalTold = (ws : List ℕ) (w : ℕ) → 0 < w % 256 → unword ws w ≡ refused (refusal (w % 256) (w / 256 % 16777216))
+RefusalTold = (ws : List ℕ) (w : ℕ) → (0 < w % 256) ↔ (unword ws w ≡ refused (refusal (w % 256) (w / 256 % 16777216)))
 
 -- so every number of a byte but 0, with every place of 24 bits, is kept
 abbrev pub RefusalKept : Type 0
