@@ -46,10 +46,10 @@ patterns =
     ∷ pattern 3 1 gaps (conflicts (policy 2 (0 ∷ 1 ∷ 0 ∷ []) (1 ∷ 0 ∷ 0 ∷ 0 ∷ [])) 8 0)
     ∷ []
 
--- what the calls tell, over buffers of 64 and of 32,768 bytes, and what they write
+-- what the calls tell, over buffers of n and n·k·n bytes, and what they write. A refusal of the matrix comes before the rooms are looked at
 abbrev pub Meets : ℕ → ℕ → List ℕ → Expected → Type 0
-Meets n k m (builds P) = (buildTold n k m 64 32768 ≡ values (P .domains ∷ [])) × (builtFrom n k m ≡ P)
-Meets n k m (refuses number i) = buildTold n k m 64 32768 ≡ refused (cellRefusal number k n i)
+Meets n k m (builds P) = (buildTold n k m n (n * k * n) ≡ values (P .domains ∷ [])) × (builtFrom n k m ≡ P)
+Meets n k m (refuses number i) = buildTold n k m 0 0 ≡ refused (cellRefusal number k n i)
 Meets n k m (enforces P d) = judgeTold n k m P ≡ values (0 ∷ d ∷ [])
 Meets n k m (conflicts P i x) = judgeTold n k m P ≡ values (1 ∷ i ∷ x ∷ [])
 
