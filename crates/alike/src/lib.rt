@@ -1,4 +1,7 @@
 // Whether two entities are alike: the call, from its refusals to the answer of the test.
+
+#![tactic(auto)]
+
 ghost use Rattle.std.specs.Prelude.{◌≡◌};
 ghost use Rattle.model.specs.Refusal.{checked};
 ghost use Rattle.alike.specs.Compare.{Compares, alike_rules};

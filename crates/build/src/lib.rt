@@ -1,4 +1,7 @@
 // The policy of a full matrix: one domain for each class of alike entities.
+
+#![tactic(auto)]
+
 ghost use Rattle.std.specs.Prelude.{◌≡◌, [], ◌∷◌, ◌++◌, ◌*◌, ◌≤◌, length};
 ghost use Rattle.model.specs.Below.{tab};
 ghost use Rattle.model.specs.Matrix.{cell, Laid};

@@ -1,4 +1,7 @@
 // The classes of alike entities, numbered in order of their smallest members.
+
+#![tactic(auto)]
+
 ghost use Rattle.std.specs.Prelude.{◌≡◌, ◌++◌, ◌≤◌, ◌<◌, length, drop};
 ghost use Rattle.model.specs.Below.{first, tab};
 ghost use Rattle.model.specs.Matrix.{cell, Laid};

@@ -1,4 +1,7 @@
 // Two entities tested by the clauses of Definition 2.11 in their order. A sender's row is read where it stands in the matrix.
+
+#![tactic(auto)]
+
 ghost use Rattle.std.specs.Prelude.{◌≡◌, ◌*◌, ◌≤◌, ◌<◌, eqb, length};
 ghost use Rattle.model.specs.Matrix.{cell, Laid};
 ghost use Rattle.model.specs.Alike.{alike_test};

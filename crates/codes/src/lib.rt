@@ -1,4 +1,7 @@
 // The words that C gets for the answers of the calls on matrices and policies, case by case.
+
+#![tactic(auto)]
+
 ghost use Rattle.std.specs.Prelude.{◌≡◌, [], ◌∷◌};
 ghost use Rattle.ask.specs.Ask.{asked_told};
 ghost use Rattle.alike.specs.Compare.{compared_told};

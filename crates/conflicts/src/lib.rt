@@ -1,4 +1,7 @@
 // The search of a matrix for the first cell that a policy contradicts.
+
+#![tactic(auto)]
+
 ghost use Rattle.std.specs.Prelude.{◌≡◌, ◌<◌};
 ghost use Rattle.model.specs.Matrix.{Laid};
 ghost use Rattle.model.specs.Policy.{policy, Within};

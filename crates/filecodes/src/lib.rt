@@ -1,4 +1,7 @@
 // The words that C gets for the answers of the calls on files, case by case.
+
+#![tactic(auto)]
+
 ghost use Rattle.std.specs.Prelude.{◌≡◌, [], ◌∷◌};
 ghost use Rattle.files.specs.Read.{read_matrix_told, read_policy_told};
 ghost use Rattle.files.specs.Write.{wrote_told};

@@ -1,4 +1,7 @@
 // The matrix file and the policy file, read and written.
+
+#![tactic(auto)]
+
 ghost use Rattle.std.specs.Prelude.{length};
 ghost use Rattle.model.specs.Policy.{policy};
 ghost use Rattle.layout.specs.Text.{matrix_text, policy_text};

@@ -1,4 +1,7 @@
 // An offered policy judged against a full or partial matrix.
+
+#![tactic(auto)]
+
 ghost use Rattle.std.specs.Prelude.{◌≡◌};
 ghost use Rattle.model.specs.Policy.{policy};
 ghost use Rattle.model.specs.Refusal.{checked};

@@ -1,5 +1,8 @@
 // Two entities compared by whole rows and whole columns: both are the same exactly if the two are alike (Observation 4.4 (2)). A
 // sender's row is read where it stands in the matrix.
+
+#![tactic(auto)]
+
 ghost use Rattle.std.specs.Prelude.{◌≡◌, true, ◌*◌, ◌≤◌, ◌<◌, length};
 ghost use Rattle.model.specs.Matrix.{cell, Laid};
 ghost use Rattle.model.specs.Alike.{alike_test};

@@ -1,4 +1,7 @@
 // The tests of the lists that a call is lent, in groups that each call joins in its own order; `scan` makes their refusals.
+
+#![tactic(auto)]
+
 ghost use Rattle.std.specs.Prelude.{◌≡◌, ◌*◌, ◌≤◌, leb};
 ghost use Rattle.model.specs.declared.Checked.TheVariants.{Fine};
 ghost use Rattle.model.specs.Refusal.{cell_refusal, checked};

@@ -1,4 +1,7 @@
 // The answer to an input, put down: the file of its matrix's policy, or the line of a refusal.
+
+#![tactic(auto)]
+
 ghost use Rattle.std.specs.Prelude.{◌≡◌, ◌≤◌, length};
 ghost use Rattle.model.specs.Matrix.{Holds};
 ghost use Rattle.model.specs.Refusal.{over};

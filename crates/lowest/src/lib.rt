@@ -1,4 +1,7 @@
 // The one scan for the lowest place that is at fault, by blocks.
+
+#![tactic(auto)]
+
 ghost use Rattle.std.specs.Prelude.{◌≡◌, ◌≤◌, ◌<◌, leb, length, get_or};
 ghost use Rattle.model.specs.Below.{any};
 ghost use Rattle.model.specs.Rules.{lowest};

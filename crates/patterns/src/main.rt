@@ -1,5 +1,8 @@
 // The patterns of document 01, woven by the calls themselves: prints what each call answered and what it left in its buffers. The
 // buffers are longer than what is written and full of nines, which show that later bytes stay.
+
+#![tactic(auto)]
+
 ghost use Rattle.io.specs.Counts.{IsPrefixLen};
 
 use alike::Compared;

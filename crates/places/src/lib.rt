@@ -1,4 +1,7 @@
 // The two files as they are read: the place where a file stops being one.
+
+#![tactic(auto)]
+
 ghost use Rattle.std.specs.Prelude.{◌≡◌, cond, ◌+◌, ◌*◌, ◌≤◌, eqb, length};
 ghost use Rattle.layout.specs.Layout.{reach, Piece, PolicySizes, number_at, digit_at, matrix_layout, policy_layout, assigned};
 

@@ -1,4 +1,7 @@
 // The pieces of a file, read. A reader answers a place: the piece's end, or the first byte that does not fit it.
+
+#![tactic(auto)]
+
 ghost use Rattle.std.specs.Prelude.{◌≡◌, ◌+◌, ◌*◌, ◌≤◌, ◌<◌, leb, length, get_or};
 ghost use Rattle.model.specs.Below.{any};
 ghost use Rattle.layout.specs.Layout.{Piece, Value, digit_of, cell_of, digit_at, number_at};

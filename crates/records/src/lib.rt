@@ -1,4 +1,7 @@
 // The pieces of a file that are made of others, read: the records, the sizes, the last line.
+
+#![tactic(auto)]
+
 ghost use Rattle.std.specs.Prelude.{◌≡◌, ◌+◌, ◌*◌, ◌≤◌, ◌<◌, length, drop};
 ghost use Rattle.layout.specs.Layout.{reach, Piece, Sizes, digit_at, number_at, record_of, records, close};
 

@@ -1,4 +1,7 @@
 // The line of a refusal, put down at the start of a buffer.
+
+#![tactic(auto)]
+
 ghost use Rattle.std.specs.Prelude.{◌≡◌, ◌≤◌, ◌<◌, length};
 ghost use Rattle.model.specs.Refusal.{over};
 ghost use Rattle.woven.specs.Weave.{refusal_text};

@@ -1,4 +1,7 @@
 // The lines of a file, written: each goes to `out` from `at` on, and the other bytes stay.
+
+#![tactic(auto)]
+
 ghost use Rattle.std.specs.Prelude.{◌≡◌, ◌++◌, ◌+◌, ◌*◌, ◌≤◌, ◌<◌, length};
 ghost use Rattle.std.proofs.lemmas.List.Edits.{sets};
 ghost use Rattle.layout.specs.Text.{ZZ, each, one, two, line, record_text};

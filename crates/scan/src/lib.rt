@@ -1,4 +1,7 @@
 // Refusals are made here and nowhere else: the tests of numbers, in groups that each call joins in its own order.
+
+#![tactic(auto)]
+
 ghost use Rattle.std.specs.Prelude.{◌≡◌, cond, ◌*◌, ◌≤◌, ◌<◌, leb};
 ghost use Rattle.model.specs.declared.Checked.TheVariants.{Fine, Bad};
 ghost use Rattle.model.specs.Matrix.{cell_at};

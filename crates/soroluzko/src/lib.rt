@@ -1,5 +1,8 @@
 // A whole input to a whole output, for the program; and the boundary to C: each call over plain numbers and byte slices, answered by one
 // word (include/soroluzko.h).
+
+#![tactic(auto)]
+
 ghost use Rattle.std.specs.Prelude.{◌≡◌, length};
 ghost use Rattle.model.specs.Policy.{policy};
 ghost use Rattle.layout.specs.Text.{matrix_text, policy_text};

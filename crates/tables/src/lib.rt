@@ -1,4 +1,7 @@
 // The two writes of a policy: the domain of each entity, and the table of the members' cells.
+
+#![tactic(auto)]
+
 ghost use Rattle.std.specs.Prelude.{◌≡◌, ◌++◌, ◌*◌, ◌≤◌, length, drop};
 ghost use Rattle.model.specs.Below.{tab};
 ghost use Rattle.model.specs.Matrix.{cell, Laid};

@@ -1,4 +1,7 @@
 // The program: takes a matrix file from standard input, and no more than 33,098 bytes of it, and writes the answer to standard output.
+
+#![tactic(auto)]
+
 use files::Wrote;
 
 fn main() {

@@ -1,4 +1,7 @@
 // The word that C gets for a refusal.
+
+#![tactic(auto)]
+
 ghost use Rattle.std.specs.Prelude.{◌≡◌, []};
 ghost use Rattle.model.specs.Refusal.{refused};
 ghost use Rattle.word.specs.Word.{word, Carried};

@@ -1,4 +1,7 @@
 // The tests before a write: whether a matrix or a policy may be written to a buffer of `room` bytes.
+
+#![tactic(auto)]
+
 ghost use Rattle.std.specs.Prelude.{◌≡◌};
 ghost use Rattle.model.specs.Policy.{policy};
 ghost use Rattle.model.specs.Refusal.{checked};
