@@ -33,6 +33,8 @@ fit_rest (more h f) = f
 fields_kept : (ws vs : List ℕ) → Fit ws vs → unfields ws (fields ws vs) ≡ vs
 unfolding fields unfields
 fields_kept [] [] none = refl
+fields_kept [] (x ∷ vs) h = elim h [ ]
+fields_kept (w ∷ ws) [] h = elim h [ ]
 fields_kept (w ∷ ws) (x ∷ vs) (more h f) =
     ap₂ (λ (y : ℕ) (ys : List ℕ). y ∷ ys) (low (2 ^ w) x (fields ws vs) h)
     (ap (unfields ws) (high (2 ^ w) x (fields ws vs) h) ∙ fields_kept ws vs f)
@@ -74,6 +76,8 @@ room (w ∷ ws) = room ws * 2 ^ w
 fields_low : (ws vs : List ℕ) → Fit ws vs → fields ws vs < room ws
 unfolding fields
 fields_low [] [] none = omega arith
+fields_low [] (x ∷ vs) h = elim h [ ]
+fields_low (w ∷ ws) [] h = elim h [ ]
 fields_low (w ∷ ws) (x ∷ vs) (more h f) = rw (turned (2 ^ w) x (fields ws vs)) (digits_lt (fields_low ws vs f) h)
 
 -- a refusal leaves the upper half 0, and so do fields of at most 24 bits together

@@ -1,0 +1,43 @@
+-- `conflicts::first_conflict` meets its contract. The invariant of each loop: the next cell stands at `cell`, and no cell before it is a conflict
+-- (`Clear`). After a row's last receiver comes the next right's first cell, and after the last right the next sender's: so at the end `cell`
+-- is the number of cells, and at the break it is the first conflict. Assumes nothing.
+use mathlib.Core.Path.{refl, sym, ◌∙◌}
+use Prim.Native.Nat.{ℕ, ◌-◌, ◌≤◌, ◌<◌}
+use native.Mathlib.Omega.{arith}
+use lib.ListN.{length, get_or}
+use Rattle.model.specs.Policy.{policy}
+use Rattle.model.proofs.Loops.{first_zero}
+use Rattle.model.proofs.Places.{Steps}
+use Rattle.conflicts.proofs.Scan.{Clear, table_steps, next_right, next_sender, end, inside, next, found}
+use Rattle.conflicts.proofs.first_conflict.Goals as goal
+use Rattle.conflicts.proofs.first_conflict.Goals.{In-loop-a, In-loop-v}
+
+row : (c : In-loop-a) → let e = c.args in
+    let p = get_or e.assignment.now (c.cells.u) 0 in
+    Steps e.d e.k e.d p c.loop-a.a p
+row c = table_steps c.requires.within (omega arith) (omega arith) (omega arith)
+
+answer : (c : In-loop-v) → let e = c.args in
+    let s = e.assignment.now in
+    Steps e.d e.k e.d (get_or s (c.cells.u) 0) c.loop-a.a (get_or s c.loop-v.v 0)
+answer c = table_steps c.requires.within (omega arith) (omega arith) (omega arith)
+
+pub cells-init : goal.cells-init
+cells-init c = (omega arith, record { place = omega arith; none = first_zero _ })
+
+pub bounds-table-row : goal.bounds-table-row
+bounds-table-row c =
+    omega (arith, (row (goal.at.bounds-table-row c).In-loop-a).inside, (answer (goal.at.bounds-table-row c).In-loop-v).inside, c.requires.within.valid.size)
+
+pub loop-v-preserved : goal.loop-v-preserved
+loop-v-preserved c =
+    let inv = c.loop-v.invariant.1 in
+    (omega arith, next inv (omega arith) (omega arith) (omega arith) (sym c.contradicts.ensures ∙ c.if-contradicts.false))
+
+pub returns-after-cells : goal.returns-after-cells
+returns-after-cells c = end c.cells.invariant.1 refl refl (omega arith)
+
+pub returns-then-contradicts : goal.returns-then-contradicts
+returns-then-contradicts c =
+    let inv = c.loop-v.invariant.1 in
+    found inv (omega arith) (omega arith) (omega arith) (sym c.contradicts.ensures ∙ c.if-contradicts.true)

@@ -1,0 +1,30 @@
+-- `files::write_matrix` meets its contract: a refusal comes before anything is written, and where there is none the file is put.
+-- Assumes nothing.
+use mathlib.Core.Path.{◌≡◌, sym, ◌∙◌}
+use mathlib.Core.List.{List}
+use Prim.Native.Nat.{ℕ}
+use lib.ListN.{length}
+use Rattle.model.specs.declared.Checked.TheVariants.{Fine}
+use Rattle.model.specs.Refusal.{Rule, checked}
+use Rattle.layout.specs.Text.{matrix_text}
+use Rattle.writable.specs.Rules.{matrix_write_rules}
+use Rattle.writable.proofs.Rules.{matrix_writable, matrix_enough}
+use Rattle.files.proofs.Writes.{written_bad, written_fine}
+use Rattle.files.proofs.write_matrix.Goals as goal
+use Rattle.files.proofs.write_matrix.Goals.{In_default}
+
+-- no rule applies
+fine : (c : In_default) → checked (let a = c.args in matrix_write_rules a.n a.k a.matrix.now (length a.file.now)) ≡ Fine
+fine c = sym c.matrix_fits-fits.ensures ∙ c.in_default.is
+
+pub put_matrix-requires-clause-holds : goal.put_matrix-requires-clause-holds
+put_matrix-requires-clause-holds c =
+    let a = c.args in
+    let room = length a.file.now in
+    matrix_writable a.n a.k a.matrix.now room (fine (goal.at.put_matrix-requires-clause-holds c).In_default)
+
+pub put_matrix-requires-clause-matrix_in_bounds : goal.put_matrix-requires-clause-matrix_in_bounds
+put_matrix-requires-clause-matrix_in_bounds c =
+    let a = c.args in
+    let room = length a.file.now in
+    matrix_enough a.n a.k a.matrix.now room (fine (goal.at.put_matrix-requires-clause-matrix_in_bounds c).In_default)

@@ -1,0 +1,16 @@
+-- `lowest::reaches` meets its contract. The invariant: `found` says whether one of the first i bytes is b or more. Assumes nothing.
+use mathlib.Core.Path.{◌≡◌, sym}
+use Prim.Native.Nat.{◌-◌, ◌≤◌}
+use native.Mathlib.Omega.{arith}
+use lib.Dec.{leb}
+use lib.ListN.{length}
+use Rattle.model.specs.Below.{any}
+use Rattle.model.proofs.Loops.{any_none, any_next}
+use Rattle.lowest.proofs.Lowest.{at}
+use Rattle.lowest.proofs.reaches.Given as goal
+
+abbrev pub invariant-loop-i : goal.invariant-loop-i
+invariant-loop-i l = (l.i ≤ length l.s) × (l.found ≡ any l.i (at (leb l.b) l.s))
+
+abbrev pub decreases-loop-i : goal.decreases-loop-i
+decreases-loop-i l = length l.s - l.i

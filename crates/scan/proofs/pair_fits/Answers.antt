@@ -1,0 +1,16 @@
+-- `scan::pair_fits` finds what its rules find: each test is the test of one rule, in the rules' order. Assumes nothing.
+use Rattle.model.proofs.Groups.{tests}
+use Rattle.model.specs.Rules.{pair_rules}
+use Rattle.scan.proofs.pair_fits.Goals as goal
+
+pub returns-then-n-u : goal.returns-then-n-u
+unfolding pair_rules
+returns-then-n-u c = search tests
+
+pub returns-then-n-v : goal.returns-then-n-v
+unfolding pair_rules
+returns-then-n-v c = search tests
+
+pub returns : goal.returns
+unfolding pair_rules
+returns c = search tests

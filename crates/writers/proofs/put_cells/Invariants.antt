@@ -1,0 +1,20 @@
+-- `writers::put_cells` meets its contract. The invariant: the characters of the first i cells are written. Assumes nothing.
+use mathlib.Core.Path.{◌≡◌, refl, ap}
+use mathlib.Core.List.{List}
+use Prim.Native.Nat.{ℕ, ◌+◌, ◌-◌, ◌≤◌}
+use native.Mathlib.Omega.{arith}
+use lib.ListN.{length, get_or}
+use lib.Seq.{sets, length-sets}
+use Rattle.model.specs.Below.{tab}
+use Rattle.layout.specs.Text.{cell_char}
+use Rattle.layout.proofs.Puts.{tab_start, tab_turn}
+use Rattle.writers.proofs.put_cells.Given as goal
+
+abbrev pub char : List ℕ → ℕ → ℕ → ℕ
+char cells from i = cell_char (get_or cells (from + i) 0)
+
+abbrev pub invariant-loop-i : goal.invariant-loop-i
+invariant-loop-i l = (l.i ≤ l.w) × (l.out ≡ sets l.initial.out l.at (tab l.i (char l.cells l.from)))
+
+abbrev pub decreases-loop-i : goal.decreases-loop-i
+decreases-loop-i l = l.w - l.i
