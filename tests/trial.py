@@ -9,13 +9,18 @@ import tempfile
 ROOT = os.path.dirname(os.path.dirname(os.path.abspath(__file__)))
 
 
+def sources(folder):
+    """Copies what the crates are made of into a new folder, and not what the toolchain keeps in crates/*/out."""
+    made = tempfile.mkdtemp()
+    shutil.copy(os.path.join(folder, 'crates.txt'), made)
+    shutil.copytree(os.path.join(folder, 'crates'), os.path.join(made, 'crates'), ignore=shutil.ignore_patterns('out'))
+    return made
+
+
 def proved():
-    """A folder with the crates and a target/ in which all of them are proved. What is proved already in target/ is not proved again."""
-    folder = tempfile.mkdtemp()
-    parts = [os.path.join(ROOT, part) for part in ('crates', 'crates.txt', 'target')]
-    subprocess.run(['cp', '-R', *[part for part in parts if os.path.exists(part)], folder], check=True)
-    shutil.rmtree(os.path.join(folder, 'target/must-fail'), ignore_errors=True)
-    subprocess.run(['rt', 'check'], cwd=folder, check=True, stdout=subprocess.DEVNULL)
+    """A copy in which every crate is proved. What the toolchain has kept of the same files on this machine is not proved again."""
+    folder = sources(ROOT)
+    subprocess.run(['rt', 'all', 'check'], cwd=folder, check=True, stdout=subprocess.DEVNULL)
     return folder
 
 
@@ -23,13 +28,15 @@ class Trial:
     """A copy of a proved folder."""
 
     def __init__(self, proved_folder):
-        self.proved = proved_folder
-        self.folder = tempfile.mkdtemp()
-        self.fresh()
+        self.folder = sources(proved_folder)
+        self.held = {}
 
     def fresh(self):
-        shutil.rmtree(self.folder)
-        subprocess.run(['cp', '-R', self.proved, self.folder], check=True)
+        """Takes back all that was written. What the toolchain keeps goes by the files' text, so it may stay."""
+        for name, text in self.held.items():
+            with open(self.path(name), 'w') as file:
+                file.write(text)
+        self.held = {}
 
     def path(self, name):
         return os.path.join(self.folder, name)
@@ -39,17 +46,21 @@ class Trial:
             return file.read()
 
     def write(self, name, text):
+        self.held.setdefault(name, self.read(name))
         with open(self.path(name), 'w') as file:
             file.write(text)
 
-    def said(self, *crates):
-        """None where these crates, or all, are proved; else the crate that is not, and its errors, or what was said instead."""
-        run = subprocess.run(['rt', 'check', *crates], cwd=self.folder, capture_output=True, text=True, env={**os.environ, 'RT_JOBS': '1'})
+    def said(self, crate=None):
+        """None where this crate, or all, are proved; else the crate that is not, and its errors, or what was said instead."""
+        where = self.path(f'crates/{crate}') if crate else self.folder
+        words = ['rt', 'check', '--jobs', '1'] if crate else ['rt', 'all', 'check', '--jobs', '1']
+        run = subprocess.run(words, cwd=where, capture_output=True, text=True)
         if run.returncode == 0:
             return None
         out = run.stdout + run.stderr
-        crate = re.search(r'^rt: (\w+) NOT PROVED', out, re.M)
-        return (crate.group(1) if crate else '?', re.findall(r'error: (.*)', out) or [out[-200:]])
+        found = re.search(r'^(\w+): failed|^rt: the library (\w+) did not build', out, re.M)
+        name = (found.group(1) or found.group(2)) if found else crate or '?'
+        return name, re.findall(r'error(?:\[[\w-]+\])?: (.*)', out) or [out[-200:]]
 
 
 def edits_of(crate):
