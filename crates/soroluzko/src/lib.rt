@@ -1,5 +1,5 @@
-// A whole input to a whole output, for the program; and the boundary to C: each call over plain numbers and byte slices, answered by one
-// word (include/soroluzko.h).
+// A whole input to a whole output, for the program; and what the boundary to C hands on (`soroluzko_c`): each call over plain numbers and byte
+// slices, answered by one word (include/soroluzko.h).
 
 #![tactic(auto)]
 
@@ -30,8 +30,7 @@ pub fn weave_bytes(input: &[u8], output: &mut [u8]) -> Wrote
 }
 
 // The ask, for C: `ask::ask` with its answer as a word.
-#[unsafe(no_mangle)]
-pub extern "C" fn soroluzko_ask(
+pub fn soroluzko_ask(
     n: usize,
     k: usize,
     d: usize,
@@ -47,16 +46,14 @@ pub extern "C" fn soroluzko_ask(
 }
 
 // Alike, for C: `alike::alike` with its answer as a word.
-#[unsafe(no_mangle)]
-pub extern "C" fn soroluzko_alike(n: usize, k: usize, u: usize, v: usize, matrix: &[u8]) -> u64
+pub fn soroluzko_alike(n: usize, k: usize, u: usize, v: usize, matrix: &[u8]) -> u64
     ensures { result ≡ alike_word n k u v matrix.now }
 {
     codes::compared_word(alike::alike(n, k, u, v, matrix))
 }
 
 // The build, for C: `build::build` with its answer as a word.
-#[unsafe(no_mangle)]
-pub extern "C" fn soroluzko_build(
+pub fn soroluzko_build(
     n: usize,
     k: usize,
     matrix: &[u8],
@@ -71,8 +68,7 @@ pub extern "C" fn soroluzko_build(
 }
 
 // The judge, for C: `judge::judge` with its answer as a word.
-#[unsafe(no_mangle)]
-pub extern "C" fn soroluzko_judge(
+pub fn soroluzko_judge(
     n: usize,
     k: usize,
     d: usize,
@@ -86,24 +82,21 @@ pub extern "C" fn soroluzko_judge(
 }
 
 // Reading a matrix file, for C: `files::read_matrix` with its answer as a word.
-#[unsafe(no_mangle)]
-pub extern "C" fn soroluzko_read_matrix(file: &[u8], matrix: &mut [u8]) -> u64
+pub fn soroluzko_read_matrix(file: &[u8], matrix: &mut [u8]) -> u64
     ensures { MatrixReadWord file.now matrix.old result matrix.new }
 {
     filecodes::read_matrix_word(files::read_matrix(file, matrix))
 }
 
 // Reading a policy file, for C: `files::read_policy` with its answer as a word.
-#[unsafe(no_mangle)]
-pub extern "C" fn soroluzko_read_policy(file: &[u8], assignment: &mut [u8], table: &mut [u8]) -> u64
+pub fn soroluzko_read_policy(file: &[u8], assignment: &mut [u8], table: &mut [u8]) -> u64
     ensures { PolicyReadWord file.now assignment.old table.old result assignment.new table.new }
 {
     filecodes::read_policy_word(files::read_policy(file, assignment, table))
 }
 
 // Writing a matrix file, for C: `files::write_matrix` with its answer as a word.
-#[unsafe(no_mangle)]
-pub extern "C" fn soroluzko_write_matrix(n: usize, k: usize, matrix: &[u8], file: &mut [u8]) -> u64
+pub fn soroluzko_write_matrix(n: usize, k: usize, matrix: &[u8], file: &mut [u8]) -> u64
     ensures { WrittenWord (matrix_write_rules n k matrix.now (length file.old)) (matrix_text n k matrix.now)
         file.old result file.new }
 {
@@ -111,8 +104,7 @@ pub extern "C" fn soroluzko_write_matrix(n: usize, k: usize, matrix: &[u8], file
 }
 
 // Writing a policy file, for C: `files::write_policy` with its answer as a word.
-#[unsafe(no_mangle)]
-pub extern "C" fn soroluzko_write_policy(
+pub fn soroluzko_write_policy(
     n: usize,
     k: usize,
     d: usize,
@@ -127,8 +119,7 @@ pub extern "C" fn soroluzko_write_policy(
 }
 
 // The weave, for C: `weave_bytes` with its answer as a word.
-#[unsafe(no_mangle)]
-pub extern "C" fn soroluzko_weave(input: &[u8], output: &mut [u8]) -> u64
+pub fn soroluzko_weave(input: &[u8], output: &mut [u8]) -> u64
     ensures { WeaveWord input.now output.old result output.new }
 {
     filecodes::wrote_word(weave_bytes(input, output))
