@@ -49,8 +49,8 @@ pub fn ask(
 
 // The ask once sizes, lengths and request are in order: two domain numbers and one cell are read.
 fn look(k: usize, d: usize, u: usize, a: usize, v: usize, assignment: &[u8], table: &[u8]) -> Asked
-    requires k_bound { (k ≤ 8) × (d ≤ 64) × (length table.now ≡ d * k * d) }
-    requires u_in_bounds { (u < length assignment.now) × (a < k) × (v < length assignment.now) }
+    requires table_laid { (k ≤ 8) × (d ≤ 64) × (length table.now ≡ d * k * d) }
+    requires request_in_range { (u < length assignment.now) × (a < k) × (v < length assignment.now) }
     ensures { asked_told result
         ≡ tell (checked (look_rules k u a v (policy d assignment.now table.now)))
         (granted k (policy d assignment.now table.now) u a v) }

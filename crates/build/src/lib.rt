@@ -58,7 +58,7 @@ fn write(
 ) -> Built
     requires laid { Laid n k m.now }
     requires members { Members n d members.now }
-    requires n_in_bounds { (n ≤ length domains.now) × (n ≤ length assignment.old) }
+    requires buffers_hold_n { (n ≤ length domains.now) × (n ≤ length assignment.old) }
     ensures result_value { built_told result ≡ tell (checked (room_rules 11 (length table.old) (d * k * d))) (d ∷ []) }
     ensures assignment_after { assignment.new
         ≡ held (checked (room_rules 11 (length table.old) (d * k * d))) (tab n (nth domains.now)) assignment.old }

@@ -3,7 +3,6 @@
 use mathlib.Core.Path.{◌≡◌, refl, subst}
 use mathlib.Core.List.{[], ◌∷◌}
 use Prim.Native.Nat.{ℕ, ◌≤◌}
-use native.Mathlib.Nat.{le_trans}
 use native.Mathlib.Omega.{arith}
 use Rattle.model.specs.Below.{all, any, count, first, tab}
 use Rattle.model.specs.Matrix.{cell}
@@ -23,7 +22,8 @@ use Rattle.claims.specs.Patterns.{gaps, patterns, PatternsMet, PatternsPrinted, 
 use Rattle.claims.proofs.Judge.{judge_accepts}
 
 pub patterns_met : PatternsMet
-unfolding patterns all any count first tab cell rows_test alike_test smallest is_smallest classes class_of member_of domain_of answer table_of built clash_test first_clash
+unfolding patterns all any count first tab cell rows_test alike_test smallest is_smallest classes class_of member_of domain_of answer
+    table_of built clash_test first_clash
     refusal cell_refusal lowest lowest_rule size_rules matrix_rules full_rules whole_rules assignment_rules table_rules room_rules build_rules build_told
     judge_rules conflict verdict judge_told
 patterns_met = (
@@ -79,7 +79,8 @@ apart limit t =
     (subst (λ (p : ℕ). cell 1 P.domains P.table p 0 p ≡ 1) t.shared (t.enforces.grants 0 0 0 (omega arith) (omega arith) (omega arith) refl))
 
 pub gaps_merged : GapsMerged
-unfolding all any count first tab cell domain_of answer clash_test first_clash lowest lowest_rule size_rules matrix_rules assignment_rules table_rules judge_rules conflict
+unfolding all any count first tab cell domain_of answer clash_test first_clash lowest lowest_rule size_rules matrix_rules assignment_rules
+    table_rules judge_rules conflict
     verdict judge_told
 gaps_merged limit h = (
   joins limit (policy 2 (0 ∷ 0 ∷ 1 ∷ []) (1 ∷ 0 ∷ 0 ∷ 0 ∷ [])) 0 1 h refl refl,

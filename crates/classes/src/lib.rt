@@ -12,7 +12,7 @@ ghost use Rattle.classes.specs.Members.{nth, Members};
 // The domain of each entity to `domains`, the smallest member of each domain to `members`; how many domains there are.
 pub fn classify(n: usize, k: usize, m: &[u8], domains: &mut [u8], members: &mut [u8]) -> usize
     requires laid { Laid n k m.now }
-    requires n_in_bounds { (n ≤ length domains.old) × (n ≤ length members.old) }
+    requires buffers_hold_n { (n ≤ length domains.old) × (n ≤ length members.old) }
     ensures value { result ≡ classes n (alike_test n k (cell k n m.now)) }
     ensures domains_after { domains.new ≡ tab n (class_of n (alike_test n k (cell k n m.now))) ++ drop n domains.old }
     ensures members_after { members.new ≡ tab result (member_of n (alike_test n k (cell k n m.now))) ++ drop result members.old }

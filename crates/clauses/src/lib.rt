@@ -10,7 +10,7 @@ ghost use Rattle.clauses.specs.Clauses.{own_all_test, but_test, sends_all_test, 
 // The test itself: the pair's own four cells, then the others'. The rows of u and v are compared where they stand.
 pub fn same(n: usize, k: usize, u: usize, v: usize, m: &[u8]) -> bool
     requires laid { Laid n k m.now }
-    requires u_lt_n { (u < n) × (v < n) }
+    requires pair_in_range { (u < n) × (v < n) }
     ensures { result ≡ alike_test n k (cell k n m.now) u v }
 {
     let row = k * n;
@@ -29,8 +29,8 @@ pub fn same(n: usize, k: usize, u: usize, v: usize, m: &[u8]) -> bool
 
 // Clause 1: the pair's own four cells, in the rows of u and v.
 fn own_same(n: usize, k: usize, u: usize, v: usize, r: &[u8], s: &[u8]) -> bool
-    requires n_bound { (n ≤ 64) × (k ≤ 8) × (u < n) × (v < n) }
-    requires r_len { (length r.now ≡ k * n) × (length s.now ≡ k * n) }
+    requires pair_within_limits { (n ≤ 64) × (k ≤ 8) × (u < n) × (v < n) }
+    requires row_lengths { (length r.now ≡ k * n) × (length s.now ≡ k * n) }
     ensures { result ≡ own_all_test n k r.now s.now u v }
 {
     let mut a = 0;
@@ -86,7 +86,7 @@ fn same_but(u: usize, v: usize, x: usize, p: u8, q: u8) -> bool
 // Clause 2, receiving: every sender's row, where it stands.
 fn receives_same(n: usize, k: usize, u: usize, v: usize, m: &[u8]) -> bool
     requires laid { Laid n k m.now }
-    requires u_lt_n { (u < n) × (v < n) }
+    requires pair_in_range { (u < n) × (v < n) }
     ensures { result ≡ treats_all_test n k m.now u v }
 {
     let row = k * n;

@@ -1,13 +1,13 @@
 -- The longest files: no file is longer (`matrix_short`, `policy_short`), and those of 64 entities, 8 rights and 64 domains without a grant are
 -- as long. Assumes nothing.
-use mathlib.Core.Path.{◌≡◌, refl, sym, ◌∙◌}
+use mathlib.Core.Path.{refl}
 use mathlib.Core.List.{List}
-use Prim.Native.Nat.{ℕ, ◌≤◌, ◌<◌}
+use Prim.Native.Nat.{ℕ, ◌<◌}
 use native.Mathlib.Nat.{le_trans}
 use native.Mathlib.Omega.{arith}
 use lib.ListN.{length, get_or}
 use Rattle.model.specs.Below.{tab}
-use Rattle.model.specs.Policy.{Policy, policy, domain_of, Within}
+use Rattle.model.specs.Policy.{Policy, policy, domain_of}
 use Rattle.model.proofs.Below.{length_tab, get_or_tab}
 use Rattle.layout.specs.Text.{matrix_text, policy_text}
 use Rattle.layout.specs.Files.{MatrixFile, PolicyFile}

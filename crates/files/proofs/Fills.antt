@@ -23,7 +23,7 @@ use Rattle.layout.specs.Layout.{reach, matrix_layout, policy_layout, digit_at, n
 use Rattle.layout.proofs.Files.{matrix_formed, matrix_malformed, policy_formed, policy_malformed}
 use Rattle.layout.proofs.Contents.{Short, short, MatrixSays, matrix_says, PolicySays, policy_says}
 use Rattle.layout.proofs.Puts.{put_whole}
-use Rattle.files.specs.Read.{MatrixRead, formed, malformed, matrix_room, policy_room, PolicyRead}
+use Rattle.files.specs.Read.{MatrixRead, matrix_room, policy_room, PolicyRead}
 
 -- ---- what the test of the place shows
 

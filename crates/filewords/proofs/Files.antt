@@ -2,7 +2,7 @@
 -- the numbers are within the limits. And what is told is one thing, so the word is one. Assumes nothing.
 use mathlib.Core.Path.{sym, ap, ◌∙◌, subst}
 use mathlib.Core.List.{List, [], ◌∷◌, ◌++◌}
-use Prim.Native.Nat.{ℕ, ◌+◌, ◌≤◌}
+use Prim.Native.Nat.{ℕ, ◌≤◌}
 use native.Mathlib.Omega.{arith}
 use lib.ListN.{length}
 use Rattle.model.specs.Policy.{Policy}
@@ -16,7 +16,7 @@ use Rattle.layout.specs.Files.{MatrixFormed, PolicyFormed}
 use Rattle.layout.proofs.Contents.{matrix_length, policy_length, short, matrix_short, policy_short}
 use Rattle.layout.proofs.Faults.{place_short}
 use Rattle.writable.specs.Rules.{matrix_write_rules, policy_write_rules}
-use Rattle.files.specs.Read.{MatrixRead, PolicyRead, formed, malformed}
+use Rattle.files.specs.Read.{MatrixRead, PolicyRead}
 use Rattle.files.specs.Write.{Written}
 use Rattle.filed.proofs.Read.{matrix_read_one, policy_read_one}
 use Rattle.filed.proofs.Write.{written_one}

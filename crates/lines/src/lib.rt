@@ -11,7 +11,7 @@ ghost use Rattle.lines.specs.Lines.{same_test, columns_test};
 // Whether u and v are alike in a full matrix.
 pub fn same(n: usize, k: usize, u: usize, v: usize, m: &[u8]) -> bool
     requires laid { Laid n k m.now }
-    requires u_lt_n { (u < n) × (v < n) }
+    requires pair_in_range { (u < n) × (v < n) }
     ensures { result ≡ alike_test n k (cell k n m.now) u v }
 {
     let row = k * n;
@@ -57,7 +57,7 @@ fn same_block(r: &[u8], s: &[u8], i: usize, e: usize) -> bool
 // a time.
 fn same_columns(n: usize, k: usize, u: usize, v: usize, m: &[u8]) -> bool
     requires laid { Laid n k m.now }
-    requires u_lt_n { (u < n) × (v < n) }
+    requires pair_in_range { (u < n) × (v < n) }
     ensures { result ≡ columns_test (n * k) n m.now u v }
 {
     let lines = n * k;
@@ -76,8 +76,8 @@ fn same_columns(n: usize, k: usize, u: usize, v: usize, m: &[u8]) -> bool
 
 // Whether the cells u and v are the same in the first e lines, where they are in the first i. There is no branch inside, as above.
 fn same_lines(n: usize, u: usize, v: usize, m: &[u8], i: usize, e: usize) -> bool
-    requires u_lt_n { (u < n) × (v < n) × (e * n ≤ length m.now) × (length m.now ≤ 32768) }
-    requires i_le_e { (i ≤ e) × (columns_test i n m.now u v ≡ true) }
+    requires lines_in_matrix { (u < n) × (v < n) × (e * n ≤ length m.now) × (length m.now ≤ 32768) }
+    requires first_lines_same { (i ≤ e) × (columns_test i n m.now u v ≡ true) }
     ensures { result ≡ columns_test e n m.now u v }
 {
     let mut apart: u8 = 0;

@@ -24,7 +24,7 @@ pub fn put_assignment(n: usize, domains: &[u8], assignment: &mut [u8])
 pub fn put_table(n: usize, k: usize, d: usize, m: &[u8], members: &[u8], table: &mut [u8])
     requires laid { Laid n k m.now }
     requires members { Members n d members.now }
-    requires d_in_bounds { d * k * d ≤ length table.old }
+    requires table_has_room { d * k * d ≤ length table.old }
     ensures { table.new
         ≡ table_of d d k (cell k n m.now) (nth members.now) (nth members.now)
         ++ drop (d * k * d) table.old }

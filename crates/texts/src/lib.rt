@@ -12,7 +12,7 @@ ghost use Rattle.layout.specs.Text.{PD, AS, each, one, two, line, matrix_text, p
 // The file, and its length.
 pub fn put_matrix(n: usize, k: usize, matrix: &[u8], file: &mut [u8]) -> usize
     requires holds { Holds n k 3 matrix.now }
-    requires matrix_in_bounds { length (matrix_text n k matrix.now) ≤ length file.old }
+    requires file_has_room { length (matrix_text n k matrix.now) ≤ length file.old }
     ensures value { result ≡ length (matrix_text n k matrix.now) }
     ensures file_after { file.new ≡ over (matrix_text n k matrix.now) file.old }
 {
@@ -34,7 +34,7 @@ pub fn put_policy(
     file: &mut [u8],
 ) -> usize
     requires within { Within n k (policy d assignment.now table.now) }
-    requires table_in_bounds { length (policy_text n k (policy d assignment.now table.now)) ≤ length file.old }
+    requires file_has_room { length (policy_text n k (policy d assignment.now table.now)) ≤ length file.old }
     ensures value { result ≡ length (policy_text n k (policy d assignment.now table.now)) }
     ensures file_after { file.new ≡ over (policy_text n k (policy d assignment.now table.now)) file.old }
 {
@@ -59,8 +59,8 @@ fn put_head(n: usize, k: usize, d: usize, file: &mut [u8])
 
 // The second line.
 fn put_assigned(assignment: &[u8], file: &mut [u8])
-    requires assignment_in_bounds { 11 + length assignment.now * 2 ≤ length file.old }
-    requires by_index { (i : ℕ) → i < length assignment.now → get_or assignment.now i 0 < 100 }
+    requires file_has_room { 11 + length assignment.now * 2 ≤ length file.old }
+    requires below_100 { (i : ℕ) → i < length assignment.now → get_or assignment.now i 0 < 100 }
     ensures { file.new
         ≡ sets file.old 8 (line (AS ++ each (length assignment.now) (λ u. two (get_or assignment.now u 0)))) }
 {

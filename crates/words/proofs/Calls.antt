@@ -38,7 +38,9 @@ bit false = omega arith
 
 pub ask_held : (n k u a v : ℕ) (P : Policy) → Held (1 ∷ []) (ask_told n k u a v P)
 unfolding ask_told
-ask_held n k u a v P = told_held (1 ∷ []) (ask_rules n k u a v P) (granted k P u a v) (ask_carried n k u a v P) (λ _. more (bit (eqb (answer k P u a v) 1)) none)
+ask_held n k u a v P =
+    told_held (1 ∷ []) (ask_rules n k u a v P) (granted k P u a v) (ask_carried n k u a v P)
+    (λ _. more (bit (eqb (answer k P u a v) 1)) none)
 
 pub alike_held : (n k u v : ℕ) (m : List ℕ) → Held (1 ∷ []) (alike_told n k u v m)
 unfolding alike_told

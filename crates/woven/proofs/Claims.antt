@@ -63,7 +63,8 @@ woven_unique s t t' (malformed p w e) (malformed o z q) = e ∙ ap (λ (i : ℕ)
 answered : {n k : ℕ} {m s t : List ℕ} → MatrixFile n k m s → Woven s t → t ≡ answer_text n k m
 answered {n} {k} {m} {s} {t} f w = woven_unique s t (answer_text n k m) w (formed n k m f refl)
 
-policy_answered : {n k : ℕ} {m s t : List ℕ} → MatrixFile n k m s → checked (full_rules n k m) ≡ Fine → t ≡ answer_text n k m → PolicyFile n k (built_from n k m) t
+policy_answered : {n k : ℕ} {m s t : List ℕ} → MatrixFile n k m s → checked (full_rules n k m) ≡ Fine → t ≡ answer_text n k m
+    → PolicyFile n k (built_from n k m) t
 policy_answered {n} {k} {m} {s} {t} f fine e = record { within = built-within f.matrix fine; text = e ∙ answer-built f.matrix fine }
 
 pub woven_policy : WovenPolicy
@@ -133,7 +134,8 @@ nine m s size fine text = record {
 }
 
 pub woven_example : WovenExample
-unfolding matrix_text policy_text each refusal_text answer_text matrix_rules full_rules lowest_rule lowest cell_refusal all any count first tab cell rows_test alike_test
+unfolding matrix_text policy_text each refusal_text answer_text matrix_rules full_rules lowest_rule lowest cell_refusal all any count first
+    tab cell rows_test alike_test
     smallest is_smallest classes class_of member_of domain_of table_of built
 woven_example t = (λ w. answered (nine full example refl refl refl) w, λ w. answered (nine part p10 refl refl refl) w)
   where

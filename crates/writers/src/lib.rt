@@ -38,8 +38,8 @@ pub fn put_number(out: &mut [u8], at: usize, x: usize)
 
 // Two digits for each of the numbers.
 pub fn put_numbers(out: &mut [u8], at: usize, numbers: &[u8])
-    requires numbers_in_bounds { at + length numbers.now * 2 ≤ length out.old }
-    requires by_index { (i : ℕ) → i < length numbers.now → get_or numbers.now i 0 < 100 }
+    requires out_has_room { at + length numbers.now * 2 ≤ length out.old }
+    requires below_100 { (i : ℕ) → i < length numbers.now → get_or numbers.now i 0 < 100 }
     ensures { out.new ≡ sets out.old at (each (length numbers.now) (λ u. two (get_or numbers.now u 0))) }
 {
     let mut u = 0;

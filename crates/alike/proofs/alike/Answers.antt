@@ -46,7 +46,7 @@ same-requires-clause-laid c =
     let x = c.args in
     (fits x.n x.k x.u x.v x.matrix.now (fine (goal.at.same-requires-clause-laid c).In_default)).0
 
-pub same-requires-clause-u_lt_n : goal.same-requires-clause-u_lt_n
-same-requires-clause-u_lt_n c =
+pub same-requires-clause-pair_in_range : goal.same-requires-clause-pair_in_range
+same-requires-clause-pair_in_range c =
     let x = c.args in
-    (fits x.n x.k x.u x.v x.matrix.now (fine (goal.at.same-requires-clause-u_lt_n c).In_default)).1
+    (fits x.n x.k x.u x.v x.matrix.now (fine (goal.at.same-requires-clause-pair_in_range c).In_default)).1

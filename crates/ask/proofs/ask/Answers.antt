@@ -3,7 +3,7 @@
 use mathlib.Core.Path.{◌≡◌, sym, ap, ◌∙◌}
 use native.Mathlib.Omega.{arith}
 use Rattle.model.specs.declared.Checked.TheVariants.{Fine}
-use Rattle.model.specs.Policy.{Policy, policy}
+use Rattle.model.specs.Policy.{policy}
 use Rattle.model.specs.Refusal.{checked, refused}
 use Rattle.model.specs.Rules.{size_rules, request_rules}
 use Rattle.model.proofs.Rules.{Sized, sizes_fine, request_fine}
@@ -31,7 +31,8 @@ returns-in-Bad c =
 pub returns-then-assignment-n : goal.returns-then-assignment-n
 returns-then-assignment-n c =
     let a = c.args in
-    ap refused c.refuse.ensures ∙ assignment_bad a.n a.k a.u a.a a.v (let a = c.args in policy a.d a.assignment.now a.table.now) (sized (goal.at.returns-then-assignment-n c).In_default) (omega arith)
+    let P = policy a.d a.assignment.now a.table.now in
+    ap refused c.refuse.ensures ∙ assignment_bad a.n a.k a.u a.a a.v P (sized (goal.at.returns-then-assignment-n c).In_default) (omega arith)
 
 pub overflow_mul-d : goal.overflow_mul-d
 overflow_mul-d c = let l = limits (goal.at.overflow_mul-d c).In_default in omega (arith, (small l.domains l.rights l.domains).rows)
@@ -42,30 +43,33 @@ overflow_mul-d-2 c = let l = limits (goal.at.overflow_mul-d-2 c).In_default in o
 pub returns-then-table-d : goal.returns-then-table-d
 returns-then-table-d c =
     let a = c.args in
-    ap refused c.refuse-then-table-d.ensures ∙ table_bad a.n a.k a.u a.a a.v (let a = c.args in policy a.d a.assignment.now a.table.now) (sized (goal.at.returns-then-table-d c).In_default) (omega arith) (omega arith)
+    let P = policy a.d a.assignment.now a.table.now in
+    ap refused c.refuse-then-table-d.ensures ∙ table_bad a.n a.k a.u a.a a.v P (sized (goal.at.returns-then-table-d c).In_default) (omega arith) (omega arith)
 
 pub returns-in-Bad-request : goal.returns-in-Bad-request
 returns-in-Bad-request c =
     let a = c.args in
-    request_bad a.n a.k a.u a.a a.v (let a = c.args in policy a.d a.assignment.now a.table.now) (sized (goal.at.returns-in-Bad-request c).In_default) (omega arith) (omega arith) _
+    let P = policy a.d a.assignment.now a.table.now in
+    request_bad a.n a.k a.u a.a a.v P (sized (goal.at.returns-in-Bad-request c).In_default) (omega arith) (omega arith) _
     (sym c.request_fits-request.ensures ∙ c.in-Bad-request.is)
 
-pub look-requires-clause-k_bound : goal.look-requires-clause-k_bound
-look-requires-clause-k_bound c =
+pub look-requires-clause-table_laid : goal.look-requires-clause-table_laid
+look-requires-clause-table_laid c =
     let a = c.args in
-    let l = limits (goal.at.look-requires-clause-k_bound c).In_default in
-    let r = request_fine a.n a.k a.u a.a a.v (asked (goal.at.look-requires-clause-k_bound c).In_default-request) in
+    let l = limits (goal.at.look-requires-clause-table_laid c).In_default in
+    let r = request_fine a.n a.k a.u a.a a.v (asked (goal.at.look-requires-clause-table_laid c).In_default-request) in
     (l.rights, l.domains, omega arith)
 
-pub look-requires-clause-u_in_bounds : goal.look-requires-clause-u_in_bounds
-look-requires-clause-u_in_bounds c =
+pub look-requires-clause-request_in_range : goal.look-requires-clause-request_in_range
+look-requires-clause-request_in_range c =
     let a = c.args in
-    let l = limits (goal.at.look-requires-clause-u_in_bounds c).In_default in
-    let r = request_fine a.n a.k a.u a.a a.v (asked (goal.at.look-requires-clause-u_in_bounds c).In_default-request) in
+    let l = limits (goal.at.look-requires-clause-request_in_range c).In_default in
+    let r = request_fine a.n a.k a.u a.a a.v (asked (goal.at.look-requires-clause-request_in_range c).In_default-request) in
     (omega (arith, r.0), r.1, omega (arith, r.2))
 
 pub returns : goal.returns
 returns c =
     let a = c.args in
-    let q = looks a.n a.k a.u a.a a.v (let a = c.args in policy a.d a.assignment.now a.table.now) (sized (goal.at.returns c).In_default) (omega arith) (omega arith) (asked (goal.at.returns c).In_default-request) in
-    c.look.ensures ∙ told a.n a.k a.u a.a a.v (let a = c.args in policy a.d a.assignment.now a.table.now) (checked (look_rules a.k a.u a.a a.v (let a = c.args in policy a.d a.assignment.now a.table.now))) q
+    let P = policy a.d a.assignment.now a.table.now in
+    let q = looks a.n a.k a.u a.a a.v P (sized (goal.at.returns c).In_default) (omega arith) (omega arith) (asked (goal.at.returns c).In_default-request) in
+    c.look.ensures ∙ told a.n a.k a.u a.a a.v P (checked (look_rules a.k a.u a.a a.v P)) q

@@ -26,10 +26,10 @@ classify-d-requires-clause-laid c =
     let l = (whole a.n a.k a.matrix.now a.assignment.now a.table.now (fine (goal.at.classify-d-requires-clause-laid c).In_default)).laid in
     l
 
-pub classify-d-requires-clause-n_in_bounds : goal.classify-d-requires-clause-n_in_bounds
-classify-d-requires-clause-n_in_bounds c =
+pub classify-d-requires-clause-buffers_hold_n : goal.classify-d-requires-clause-buffers_hold_n
+classify-d-requires-clause-buffers_hold_n c =
     let a = c.args in
-    let l = (whole a.n a.k a.matrix.now a.assignment.now a.table.now (fine (goal.at.classify-d-requires-clause-n_in_bounds c).In_default)).laid in
+    let l = (whole a.n a.k a.matrix.now a.assignment.now a.table.now (fine (goal.at.classify-d-requires-clause-buffers_hold_n c).In_default)).laid in
     (l.entities, l.entities)
 
 pub returns : goal.returns
@@ -37,7 +37,8 @@ returns c =
     let a = c.args in
     let q = c.classify-d.ensures in
     let p = c.write.ensures in
-    wrote a.n a.k a.matrix.now a.assignment.now a.table.now (fine (goal.at.returns c).In_default) _ _ _ _ _ q.value q.domains_after q.members_after _ _ _ p.result_value p.assignment_after p.table_after
+    wrote a.n a.k a.matrix.now a.assignment.now a.table.now (fine
+    (goal.at.returns c).In_default) _ _ _ _ _ q.value q.domains_after q.members_after _ _ _ p.result_value p.assignment_after p.table_after
 
 pub write-requires-clause-laid : goal.write-requires-clause-laid
 write-requires-clause-laid c =
@@ -48,11 +49,14 @@ pub write-requires-clause-members : goal.write-requires-clause-members
 write-requires-clause-members c =
     let a = c.args in
     let q = c.classify-d.ensures in
-    members_in a.n a.k a.matrix.now a.assignment.now a.table.now (fine (goal.at.write-requires-clause-members c).In_default) _ _ _ _ _ q.value q.domains_after q.members_after
+    members_in a.n a.k a.matrix.now a.assignment.now a.table.now
+    (fine (goal.at.write-requires-clause-members c).In_default) _ _ _ _ _ q.value q.domains_after q.members_after
 
-pub write-requires-clause-n_in_bounds : goal.write-requires-clause-n_in_bounds
-write-requires-clause-n_in_bounds c =
+pub write-requires-clause-buffers_hold_n : goal.write-requires-clause-buffers_hold_n
+write-requires-clause-buffers_hold_n c =
     let a = c.args in
-    let q = c.classify-d.ensures in
-    (numbers_long a.n a.k a.matrix.now a.assignment.now a.table.now (fine (goal.at.write-requires-clause-n_in_bounds c).In_default) _ _ _ _ _ q.value q.domains_after q.members_after,
-    room a.n a.k a.matrix.now a.assignment.now a.table.now (fine (goal.at.write-requires-clause-n_in_bounds c).In_default))
+    let q = c.classify-d.ensures in (
+      numbers_long a.n a.k a.matrix.now a.assignment.now a.table.now
+          (fine (goal.at.write-requires-clause-buffers_hold_n c).In_default) _ _ _ _ _ q.value q.domains_after q.members_after,
+      room a.n a.k a.matrix.now a.assignment.now a.table.now (fine (goal.at.write-requires-clause-buffers_hold_n c).In_default),
+    )

@@ -1,20 +1,11 @@
 -- `classes::classify` meets its contract. The invariant (`Numbered`): the first u entities have their numbers, and the classes met so far their
 -- smallest members, so that the search among these finds the number of the next one's class. Assumes nothing.
-use mathlib.Core.Path.{◌≡◌}
-use mathlib.Core.Logic.{⊎_elim}
 use mathlib.Core.Bool.{Bool}
 use mathlib.Core.List.{List}
-use Prim.Native.Nat.{ℕ, ◌-◌, ◌≤◌, ◌<◌}
-use native.Mathlib.Omega.{arith}
-use lib.ListN.{length}
+use Prim.Native.Nat.{ℕ, ◌-◌}
 use Rattle.model.specs.Matrix.{cell}
 use Rattle.model.specs.Alike.{alike_test}
-use Rattle.model.specs.Classes.{class_of}
-use Rattle.model.proofs.Classes.{Tests}
-use Rattle.model.proofs.Alike.{alike_tests}
-use Rattle.model.proofs.Numbering.{Numbered, numbered_start, numbered_few, numbered_long, numbered_end, numbered_old, numbered_new}
-use Rattle.model.proofs.Numbering.{class_under, member_stays, search_class}
-use Rattle.classes.specs.Members.{Members}
+use Rattle.model.proofs.Numbering.{Numbered}
 use Rattle.classes.proofs.classify.Given as goal
 
 abbrev pub like : ℕ → ℕ → List ℕ → ℕ → ℕ → Bool

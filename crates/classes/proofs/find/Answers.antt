@@ -1,13 +1,6 @@
 -- `classes::find` meets its contract. The invariant: none of the first p members is alike to u. Assumes nothing.
-use mathlib.Core.Path.{◌≡◌, sym, ap, ◌∙◌}
-use mathlib.Core.Bool.{Bool}
-use mathlib.Core.List.{List}
-use Prim.Native.Nat.{ℕ, ◌-◌, ◌≤◌}
+use mathlib.Core.Path.{◌≡◌, sym, ◌∙◌}
 use native.Mathlib.Omega.{arith}
-use lib.ListN.{get_or}
-use Rattle.model.specs.Below.{first}
-use Rattle.model.specs.Matrix.{cell}
-use Rattle.model.specs.Alike.{alike_test}
 use Rattle.model.proofs.Loops.{first_zero, first_next, first_here}
 use Rattle.classes.proofs.find.Goals as goal
 use Rattle.classes.proofs.find.Goals.{After-same}

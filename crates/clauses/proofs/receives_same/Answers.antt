@@ -1,18 +1,11 @@
 -- `clauses::receives_same` meets its contract. The invariant: each of the first x senders is u or v, or treats them the same. The part that
 -- is passed is the sender's row. Assumes nothing.
-use borrow.Author.Tests.{not-true, not-false}
 use mathlib.Core.Path.{◌≡◌, sym, ◌∙◌}
-use mathlib.Core.Bool.{true}
-use Prim.Native.Nat.{◌-◌, ◌≤◌}
 use native.Mathlib.Omega.{arith}
-use native.Mathlib.Nat.{mul-le-mul}
-use lib.ListN.{length}
-use Rattle.model.specs.Below.{all}
 use Rattle.model.proofs.Loops.{all_none, all_next, all_fails}
 use Rattle.clauses.specs.Clauses.{treats_test}
 use Rattle.model.specs.Matrix.{row_of}
-use Rattle.model.proofs.Rows.{Inside, inside, passed_length, row_told}
-use Rattle.clauses.proofs.Exits.{all_done}
+use Rattle.model.proofs.Rows.{row_told}
 use Rattle.clauses.proofs.receives_same.Goals as goal
 use Rattle.clauses.proofs.receives_same.Goals.{After-treats_same}
 

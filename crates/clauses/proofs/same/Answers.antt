@@ -1,12 +1,10 @@
 -- `clauses::same` meets its contract: the parts that are passed are the rows of u and v, so each exit is one of `Clauses`.
 -- Assumes nothing.
-use borrow.Author.Tests.{not-true, not-false}
 use mathlib.Core.Path.{◌≡◌, ◌∙◌}
 use native.Mathlib.Omega.{arith}
-use lib.ListN.{length}
 use Rattle.clauses.specs.Clauses.{own_all_test, sends_all_test, treats_all_test}
 use Rattle.model.specs.Matrix.{row_of}
-use Rattle.model.proofs.Rows.{Inside, inside, rows_told}
+use Rattle.model.proofs.Rows.{rows_told}
 use Rattle.clauses.proofs.Clauses.{own_differ, sends_differ, treats_decide}
 use Rattle.clauses.proofs.same.Goals as goal
 use Rattle.clauses.proofs.same.Goals.{After-own_same, After-receives_same, After-sends_same}

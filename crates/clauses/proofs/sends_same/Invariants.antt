@@ -1,15 +1,10 @@
 -- `clauses::sends_same` meets its contract. The invariants: the rows agree, u and v passed over, for each of the first a rights, and for
 -- right a towards each of the first x receivers. Assumes nothing.
-use borrow.Author.Tests.{not-true, not-false}
-use mathlib.Core.Path.{◌≡◌, sym, ◌∙◌}
+use mathlib.Core.Path.{◌≡◌}
 use mathlib.Core.Bool.{true}
-use Prim.Native.Nat.{ℕ, ◌+◌, ◌*◌, ◌-◌, ◌≤◌, ◌<◌}
-use native.Mathlib.Omega.{arith}
+use Prim.Native.Nat.{◌-◌, ◌≤◌}
 use Rattle.model.specs.Below.{all}
-use Rattle.model.proofs.Loops.{all_none, all_next, all_fails}
 use Rattle.clauses.specs.Clauses.{sends_test}
-use Rattle.clauses.proofs.Rows.{in_row}
-use Rattle.clauses.proofs.Exits.{all_done}
 use Rattle.clauses.proofs.sends_same.Given as goal
 
 abbrev pub invariant-loop-x : goal.invariant-loop-x

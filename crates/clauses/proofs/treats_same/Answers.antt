@@ -2,13 +2,10 @@
 -- rights do not tell u from v. Assumes nothing.
 use borrow.Author.Tests.{eq-eqb, ne_eqb}
 use mathlib.Core.Path.{◌≡◌, sym, ◌∙◌}
-use mathlib.Core.Bool.{true}
-use Prim.Native.Nat.{ℕ, ◌+◌, ◌*◌, ◌-◌, ◌≤◌, ◌<◌}
 use native.Mathlib.Omega.{arith}
 use Rattle.model.specs.Below.{all}
 use Rattle.model.proofs.Loops.{all_none, all_next, all_fails}
 use Rattle.clauses.specs.Clauses.{in_row, same_test, treats_test}
-use Rattle.clauses.proofs.Rows.{two_in_row}
 use Rattle.clauses.proofs.Exits.{but_first, but_second, but_other, all_done}
 use Rattle.clauses.proofs.treats_same.Goals as goal
 use Rattle.clauses.proofs.treats_same.Goals.{Else-x-v}
@@ -30,11 +27,11 @@ loop-a-init c = (omega arith, all_none _)
 
 pub returns-then-t-a : goal.returns-then-t-a
 returns-then-t-a c =
-    sym (decides (goal.at.returns-then-t-a c).Else-x-v ∙ all_fails _ c.loop-a.a _ (omega arith) (ne_eqb (let x = c.args in in_row x.n x.t.now c.loop-a.a x.u) (let x = c.args in in_row x.n x.t.now c.loop-a.a x.v) (omega arith)))
+    sym (decides (goal.at.returns-then-t-a c).Else-x-v ∙ all_fails _ c.loop-a.a _ (omega arith) (ne_eqb _ _ (omega arith)))
 
 pub loop-a-preserved : goal.loop-a-preserved
 loop-a-preserved c =
-    (omega arith, all_next _ _ c.loop-a.invariant.1 (eq-eqb (let x = c.args in in_row x.n x.t.now c.loop-a.a x.u) (let x = c.args in in_row x.n x.t.now c.loop-a.a x.v) (omega arith)))
+    (omega arith, all_next _ _ c.loop-a.invariant.1 (eq-eqb _ _ (omega arith)))
 
 pub returns : goal.returns
 returns c =

@@ -1,8 +1,8 @@
 -- `codes::asked_word` meets its contract: each case of the answer has its word. Assumes nothing.
-use mathlib.Core.Path.{sym, ap, ◌∙◌, subst}
+use mathlib.Core.Path.{sym, ap, ◌∙◌}
 use mathlib.Core.List.{[], ◌∷◌}
 use Rattle.ask.specs.Ask.{asked_told}
-use Rattle.word.specs.Word.{fields, word, Held}
+use Rattle.word.specs.Word.{fields, word}
 use Rattle.codes.proofs.asked_word.Goals as goal
 
 pub returns-in-Grant : goal.returns-in-Grant

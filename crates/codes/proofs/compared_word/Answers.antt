@@ -1,8 +1,8 @@
 -- `codes::compared_word` meets its contract: each case of the answer has its word. Assumes nothing.
-use mathlib.Core.Path.{sym, ap, ◌∙◌, subst}
+use mathlib.Core.Path.{sym, ap, ◌∙◌}
 use mathlib.Core.List.{[], ◌∷◌}
 use Rattle.alike.specs.Compare.{compared_told}
-use Rattle.word.specs.Word.{fields, word, Held}
+use Rattle.word.specs.Word.{fields, word}
 use Rattle.codes.proofs.compared_word.Goals as goal
 
 pub returns-in-Yes : goal.returns-in-Yes

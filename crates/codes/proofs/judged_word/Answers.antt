@@ -6,7 +6,7 @@ use native.Mathlib.Omega.{arith}
 use Rattle.judge.specs.Judge.{judged_told}
 use Rattle.word.specs.Word.{fields, word}
 use Rattle.word.specs.Word.{JudgeHeld}
-use Rattle.word.proofs.Word.{domains_held, conflict_held, refusal_held}
+use Rattle.word.proofs.Word.{domains_held}
 use Rattle.codes.proofs.judged_word.Goals as goal
 use Rattle.codes.proofs.judged_word.Goals.{In-Enforces}
 

@@ -2,13 +2,11 @@
 -- (`Clear`). After a row's last receiver comes the next right's first cell, and after the last right the next sender's: so at the end `cell`
 -- is the number of cells, and at the break it is the first conflict. Assumes nothing.
 use mathlib.Core.Path.{refl, sym, ◌∙◌}
-use Prim.Native.Nat.{ℕ, ◌-◌, ◌≤◌, ◌<◌}
 use native.Mathlib.Omega.{arith}
-use lib.ListN.{length, get_or}
-use Rattle.model.specs.Policy.{policy}
+use lib.ListN.{get_or}
 use Rattle.model.proofs.Loops.{first_zero}
 use Rattle.model.proofs.Places.{Steps}
-use Rattle.conflicts.proofs.Scan.{Clear, table_steps, next_right, next_sender, end, inside, next, found}
+use Rattle.conflicts.proofs.Scan.{table_steps, end, next, found}
 use Rattle.conflicts.proofs.first_conflict.Goals as goal
 use Rattle.conflicts.proofs.first_conflict.Goals.{In-loop-a, In-loop-v}
 

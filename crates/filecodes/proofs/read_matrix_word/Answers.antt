@@ -1,11 +1,10 @@
 -- `filecodes::read_matrix_word` meets its contract: each case of the answer has its word, which has room for it. Assumes nothing.
-use mathlib.Core.Path.{◌≡◌, sym, ap, ◌∙◌, subst}
+use mathlib.Core.Path.{◌≡◌, sym, ap, ◌∙◌}
 use mathlib.Core.List.{[], ◌∷◌}
-use Prim.Native.Nat.{◌+◌, ◌*◌, ◌^◌, ◌<◌}
+use Prim.Native.Nat.{◌+◌, ◌*◌, ◌^◌}
 use native.Mathlib.Omega.{arith}
 use Rattle.files.specs.Read.{read_matrix_told}
-use Rattle.word.specs.Word.{fields, word, Fit, Held}
-use Rattle.word.proofs.Word.{fit_first, fit_rest}
+use Rattle.word.specs.Word.{fields, word}
 use Rattle.filecodes.proofs.read_matrix_word.Goals as goal
 
 pub returns-in-Matrix : goal.returns-in-Matrix

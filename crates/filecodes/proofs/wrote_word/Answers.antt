@@ -1,11 +1,10 @@
 -- `filecodes::wrote_word` meets its contract: each case of the answer has its word, which has room for it. Assumes nothing.
-use mathlib.Core.Path.{◌≡◌, sym, ap, ◌∙◌, subst}
+use mathlib.Core.Path.{◌≡◌, sym, ap, ◌∙◌}
 use mathlib.Core.List.{[], ◌∷◌}
-use Prim.Native.Nat.{◌+◌, ◌*◌, ◌^◌, ◌<◌}
+use Prim.Native.Nat.{◌+◌, ◌*◌, ◌^◌}
 use native.Mathlib.Omega.{arith}
 use Rattle.files.specs.Write.{wrote_told}
-use Rattle.word.specs.Word.{fields, word, Fit, Held}
-use Rattle.word.proofs.Word.{fit_first}
+use Rattle.word.specs.Word.{fields, word}
 use Rattle.filecodes.proofs.wrote_word.Goals as goal
 
 pub returns-in-Length : goal.returns-in-Length

@@ -7,7 +7,7 @@ use Rattle.model.specs.declared.Checked.TheVariants.{Fine}
 use Rattle.model.specs.Refusal.{checked}
 use Rattle.model.specs.Rules.{room_rules}
 use Rattle.model.proofs.Rules.{room_fine}
-use Rattle.files.proofs.Fills.{placed_bad, placed_fine, matrix_bad, matrix_least, MatrixFits, matrix_limits, matrix_long, matrix_short, matrix_filled}
+use Rattle.files.proofs.Fills.{placed_bad, placed_fine, matrix_bad, matrix_least, MatrixFits, matrix_long, matrix_short, matrix_filled}
 use Rattle.files.proofs.read_matrix.Goals as goal
 use Rattle.files.proofs.read_matrix.Goals.{After-digit_at-k, In_default, In_default-room}
 
@@ -49,7 +49,11 @@ returns-in-Bad-room c =
     matrix_short (fits (goal.at.returns-in-Bad-room c).After-digit_at-k) c.args.matrix.now _ bad
 
 pub fill_records-requires : goal.fill_records-requires
-fill_records-requires c = (omega (arith, matrix_long (fits (goal.at.fill_records-requires c).After-digit_at-k)), room_fine 11 _ _ (roomy (goal.at.fill_records-requires c).In_default-room))
+fill_records-requires c = (
+  omega (arith, matrix_long (fits (goal.at.fill_records-requires c).After-digit_at-k)),
+  room_fine 11 _ _
+      (roomy (goal.at.fill_records-requires c).In_default-room),
+)
 
 pub returns : goal.returns
 returns c =

@@ -7,7 +7,7 @@ use Rattle.model.specs.declared.Checked.TheVariants.{Fine}
 use Rattle.model.specs.Refusal.{checked}
 use Rattle.model.specs.Rules.{room_rules}
 use Rattle.model.proofs.Rules.{room_fine}
-use Rattle.files.proofs.Fills.{placed_bad, placed_fine, policy_bad, policy_least, PolicyFits, policy_limits, policy_long}
+use Rattle.files.proofs.Fills.{placed_bad, placed_fine, policy_bad, policy_least, PolicyFits, policy_long}
 use Rattle.files.proofs.Fills.{names_short, cells_short, policy_filled}
 use Rattle.files.proofs.read_policy.Goals as goal
 use Rattle.files.proofs.read_policy.Goals.{After-number_at-d, In_default, In_default-cells, In_default-names}
@@ -65,15 +65,22 @@ pub returns-in-Bad-cells : goal.returns-in-Bad-cells
 returns-in-Bad-cells c =
     let a = c.args in
     let bad = sym c.room_fits-cells.ensures ∙ c.in-Bad-cells.is in
-    cells_short (fits (goal.at.returns-in-Bad-cells c).After-number_at-d) a.assignment.now a.table.now (roomy (goal.at.returns-in-Bad-cells c).In_default-names) _ bad
+    cells_short (fits (goal.at.returns-in-Bad-cells c).After-number_at-d) a.assignment.now a.table.now
+    (roomy (goal.at.returns-in-Bad-cells c).In_default-names) _ bad
 
 pub fill_numbers-requires : goal.fill_numbers-requires
-fill_numbers-requires c =
-    (omega (arith, policy_long (fits (goal.at.fill_numbers-requires c).After-number_at-d)), room_fine 10 _ _ (roomy (goal.at.fill_numbers-requires c).In_default-names))
+fill_numbers-requires c = (
+  omega (arith, policy_long (fits (goal.at.fill_numbers-requires c).After-number_at-d)),
+  room_fine 10 _ _
+      (roomy (goal.at.fill_numbers-requires c).In_default-names),
+)
 
 pub fill_records-requires : goal.fill_records-requires
-fill_records-requires c =
-    (omega (arith, policy_long (fits (goal.at.fill_records-requires c).After-number_at-d)), room_fine 11 _ _ (spacious (goal.at.fill_records-requires c).In_default-cells))
+fill_records-requires c = (
+  omega (arith, policy_long (fits (goal.at.fill_records-requires c).After-number_at-d)),
+  room_fine 11 _ _
+      (spacious (goal.at.fill_records-requires c).In_default-cells),
+)
 
 pub returns : goal.returns
 returns c =

@@ -1,15 +1,11 @@
 -- `files::write_matrix` meets its contract: a refusal comes before anything is written, and where there is none the file is put.
 -- Assumes nothing.
 use mathlib.Core.Path.{◌≡◌, sym, ◌∙◌}
-use mathlib.Core.List.{List}
-use Prim.Native.Nat.{ℕ}
 use lib.ListN.{length}
 use Rattle.model.specs.declared.Checked.TheVariants.{Fine}
-use Rattle.model.specs.Refusal.{Rule, checked}
-use Rattle.layout.specs.Text.{matrix_text}
+use Rattle.model.specs.Refusal.{checked}
 use Rattle.writable.specs.Rules.{matrix_write_rules}
 use Rattle.writable.proofs.Rules.{matrix_writable, matrix_enough}
-use Rattle.files.proofs.Writes.{written_bad, written_fine}
 use Rattle.files.proofs.write_matrix.Goals as goal
 use Rattle.files.proofs.write_matrix.Goals.{In_default}
 
@@ -23,8 +19,8 @@ put_matrix-requires-clause-holds c =
     let room = length a.file.now in
     matrix_writable a.n a.k a.matrix.now room (fine (goal.at.put_matrix-requires-clause-holds c).In_default)
 
-pub put_matrix-requires-clause-matrix_in_bounds : goal.put_matrix-requires-clause-matrix_in_bounds
-put_matrix-requires-clause-matrix_in_bounds c =
+pub put_matrix-requires-clause-file_has_room : goal.put_matrix-requires-clause-file_has_room
+put_matrix-requires-clause-file_has_room c =
     let a = c.args in
     let room = length a.file.now in
-    matrix_enough a.n a.k a.matrix.now room (fine (goal.at.put_matrix-requires-clause-matrix_in_bounds c).In_default)
+    matrix_enough a.n a.k a.matrix.now room (fine (goal.at.put_matrix-requires-clause-file_has_room c).In_default)

@@ -1,13 +1,11 @@
 -- `fills::fill_cells` meets its contract. The invariant: the values of the first i cells are written. Assumes nothing.
-use mathlib.Core.Path.{◌≡◌, refl, ap}
+use mathlib.Core.Path.{◌≡◌}
 use mathlib.Core.List.{List}
 use Prim.Native.Nat.{ℕ, ◌+◌, ◌-◌, ◌≤◌}
-use native.Mathlib.Omega.{arith}
-use lib.ListN.{length, get_or}
-use lib.Seq.{sets, length-sets}
+use lib.ListN.{get_or}
+use lib.Seq.{sets}
 use Rattle.model.specs.Below.{tab}
 use Rattle.layout.specs.Layout.{cell_of}
-use Rattle.layout.proofs.Puts.{tab_start, tab_turn}
 use Rattle.fills.proofs.fill_cells.Given as goal
 
 abbrev pub cell : List ℕ → ℕ → ℕ → ℕ

@@ -1,13 +1,10 @@
 -- `fills::fill_numbers` meets its contract. The invariant: the values of the first u numbers are written. Assumes nothing.
-use mathlib.Core.Path.{◌≡◌, ap}
+use mathlib.Core.Path.{◌≡◌}
 use mathlib.Core.List.{List}
 use Prim.Native.Nat.{ℕ, ◌+◌, ◌-◌, ◌*◌, ◌≤◌}
-use native.Mathlib.Omega.{arith}
-use lib.ListN.{length}
-use lib.Seq.{sets, length-sets}
+use lib.Seq.{sets}
 use Rattle.model.specs.Below.{tab}
 use Rattle.layout.specs.Layout.{number_at}
-use Rattle.layout.proofs.Puts.{tab_start, tab_turn}
 use Rattle.fills.proofs.fill_numbers.Given as goal
 
 abbrev pub value : List ℕ → ℕ → ℕ → ℕ

@@ -1,15 +1,14 @@
 -- `fills::fill_records` meets its contract. The invariant: the values of the first u records' cells are written, `from` is where record u
 -- begins, and `to` is where its values go. Assumes nothing.
 use mathlib.Core.Path.{◌≡◌, ap, ◌∙◌}
-use Prim.Native.Nat.{ℕ, ◌+◌, ◌-◌, ◌*◌, ◌≤◌}
+use Prim.Native.Nat.{ℕ, ◌+◌, ◌*◌}
 use native.Mathlib.Omega.{arith}
-use lib.ListN.{length, get_or}
-use lib.Seq.{sets, length-sets}
+use lib.ListN.{get_or}
+use lib.Seq.{sets}
 use Rattle.model.specs.Below.{tab}
 use Rattle.model.proofs.Below.{length_tab}
-use Rattle.layout.specs.Text.{each}
 use Rattle.layout.specs.Layout.{cell_of, row_at}
-use Rattle.layout.proofs.Puts.{each_start, each_turn, piece_ends}
+use Rattle.layout.proofs.Puts.{each_start, each_turn}
 use Rattle.fills.proofs.fill_records.Goals as goal
 
 pub loop-u-init : goal.loop-u-init

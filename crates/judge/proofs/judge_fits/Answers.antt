@@ -2,7 +2,7 @@
 -- next tests require. Assumes nothing.
 use mathlib.Core.Path.{◌≡◌, sym, ◌∙◌}
 use Rattle.model.specs.declared.Checked.TheVariants.{Fine}
-use Rattle.model.specs.Policy.{Policy, policy}
+use Rattle.model.specs.Policy.{policy}
 use Rattle.model.specs.Refusal.{checked}
 use Rattle.model.specs.Rules.{size_rules, matrix_rules}
 use Rattle.model.proofs.Rules.{Sized, sizes_fine}
@@ -31,13 +31,15 @@ matrix_fits-cells-requires c = let l = limits (goal.at.matrix_fits-cells-require
 pub returns-in-Bad-cells : goal.returns-in-Bad-cells
 returns-in-Bad-cells c =
     let a = c.args in
-    matrix_bad a.n a.k a.matrix.now (let a = c.args in policy a.d a.assignment.now a.table.now) (sized (goal.at.returns-in-Bad-cells c).In_default) _
+    let P = policy a.d a.assignment.now a.table.now in
+    matrix_bad a.n a.k a.matrix.now P (sized (goal.at.returns-in-Bad-cells c).In_default) _
     (sym c.matrix_fits-cells.ensures ∙ c.in-Bad-cells.is)
 
 pub returns-in-Bad-domains : goal.returns-in-Bad-domains
 returns-in-Bad-domains c =
     let a = c.args in
-    assignment_bad a.n a.k a.matrix.now (let a = c.args in policy a.d a.assignment.now a.table.now) (sized (goal.at.returns-in-Bad-domains c).In_default) (cells (goal.at.returns-in-Bad-domains c).In_default-cells) _
+    let P = policy a.d a.assignment.now a.table.now in
+    assignment_bad a.n a.k a.matrix.now P (sized (goal.at.returns-in-Bad-domains c).In_default) (cells (goal.at.returns-in-Bad-domains c).In_default-cells) _
     (sym c.assignment_fits-domains.ensures ∙ c.in-Bad-domains.is)
 
 pub table_fits-requires : goal.table_fits-requires
@@ -46,6 +48,7 @@ table_fits-requires c = let l = limits (goal.at.table_fits-requires c).In_defaul
 pub returns : goal.returns
 returns c =
     let a = c.args in
+    let P = policy a.d a.assignment.now a.table.now in
     c.table_fits.ensures
-    ∙ table_decides a.n a.k a.matrix.now (let a = c.args in policy a.d a.assignment.now a.table.now) (sized (goal.at.returns c).In_default) (cells (goal.at.returns c).In_default-cells)
+    ∙ table_decides a.n a.k a.matrix.now P (sized (goal.at.returns c).In_default) (cells (goal.at.returns c).In_default-cells)
     (sym c.assignment_fits-domains.ensures ∙ c.in_default-domains.is)

@@ -2,9 +2,6 @@
 -- test of alike (`Lines`). Assumes nothing.
 use mathlib.Core.Path.{◌∙◌}
 use native.Mathlib.Omega.{arith}
-use borrow.Author.Tests.{not-true, not-false}
-use lib.ListN.{length}
-use Rattle.model.proofs.Rows.{Inside, inside}
 use Rattle.lines.proofs.Lines.{rows_differ, rows_then_columns}
 use Rattle.lines.proofs.same.Goals as goal
 

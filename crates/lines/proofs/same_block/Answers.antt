@@ -1,10 +1,6 @@
 -- `lines::same_block` meets its contract. The invariant: `apart` is 0 exactly if the first j bytes are the same. Assumes nothing.
-use mathlib.Core.Path.{◌≡◌, sym}
-use Prim.Native.Nat.{◌-◌, ◌≤◌}
 use native.Mathlib.Omega.{arith}
-use lib.Dec.{eqb}
 use lib.ListN.{get_or}
-use Rattle.lines.specs.Lines.{same_test}
 use Rattle.lines.proofs.Lines.{agree_next}
 use Rattle.lines.proofs.same_block.Goals as goal
 

@@ -1,11 +1,8 @@
 -- `lines::same_block` meets its contract. The invariant: `apart` is 0 exactly if the first j bytes are the same. Assumes nothing.
-use mathlib.Core.Path.{◌≡◌, sym}
+use mathlib.Core.Path.{◌≡◌}
 use Prim.Native.Nat.{◌-◌, ◌≤◌}
-use native.Mathlib.Omega.{arith}
 use lib.Dec.{eqb}
-use lib.ListN.{get_or}
 use Rattle.lines.specs.Lines.{same_test}
-use Rattle.lines.proofs.Lines.{agree_next}
 use Rattle.lines.proofs.same_block.Given as goal
 
 abbrev pub invariant-loop-j : goal.invariant-loop-j

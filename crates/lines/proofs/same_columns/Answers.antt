@@ -1,16 +1,8 @@
 -- `lines::same_columns` meets its contract. The invariant: in the first i lines the two cells are the same, and those that are left go by fours.
 -- All of them are inside, since the matrix has n·k. Assumes nothing.
-use mathlib.Core.Path.{◌≡◌, sym, ap, ◌∙◌}
-use mathlib.Core.Bool.{true}
-use mathlib.Core.List.{List}
-use Prim.Native.Nat.{ℕ, ◌+◌, ◌-◌, ◌*◌, ◌%◌, ◌≤◌}
-use native.Mathlib.Nat.{mul-le-mul}
+use mathlib.Core.Path.{sym, ◌∙◌}
+use Prim.Native.Nat.{◌+◌, ◌*◌, ◌%◌}
 use native.Mathlib.Omega.{arith}
-use borrow.Author.Tests.{not-true, not-false}
-use lib.ListN.{length}
-use Rattle.model.specs.Matrix.{Laid}
-use Rattle.model.proofs.Places.{small}
-use Rattle.lines.specs.Lines.{columns_test}
 use Rattle.lines.proofs.Lines.{agree_none, agree_fails}
 use Rattle.lines.proofs.same_columns.Goals as goal
 
@@ -21,5 +13,5 @@ returns-then-not-same_lines c = agree_fails _ _ (c.args.n * c.args.k % 4) _ (ome
 pub returns-then-not-same_lines-2 : goal.returns-then-not-same_lines-2
 returns-then-not-same_lines-2 c = agree_fails _ _ (c.loop-i.i + 4) _ (omega arith) (sym c.same_lines-in-loop-i.ensures ∙ c.if-not-same_lines-2.true)
 
-pub same_lines-requires-clause-i_le_e : goal.same_lines-requires-clause-i_le_e
-same_lines-requires-clause-i_le_e c = (omega arith, agree_none _ _)
+pub same_lines-requires-clause-first_lines_same : goal.same_lines-requires-clause-first_lines_same
+same_lines-requires-clause-first_lines_same c = (omega arith, agree_none _ _)

@@ -1,12 +1,9 @@
 -- `lines::same_lines` meets its contract. The invariant: `apart` is 0 exactly if the cells u and v are the same in the first j lines; line j
 -- is inside, since it is one of the first e. Assumes nothing.
-use mathlib.Core.Path.{◌≡◌, sym}
-use Prim.Native.Nat.{◌-◌, ◌*◌, ◌+◌, ◌≤◌}
-use native.Mathlib.Omega.{arith}
+use mathlib.Core.Path.{◌≡◌}
+use Prim.Native.Nat.{◌-◌, ◌≤◌}
 use lib.Dec.{eqb}
-use lib.ListN.{length, get_or}
 use Rattle.lines.specs.Lines.{columns_test}
-use Rattle.lines.proofs.Lines.{Line, line, agree_next}
 use Rattle.lines.proofs.same_lines.Given as goal
 
 abbrev pub invariant-loop-j : goal.invariant-loop-j

@@ -1,11 +1,8 @@
 -- `lines::same_row` meets its contract. The invariant: the first i bytes are the same; a block moves i to its end. Assumes nothing.
-use mathlib.Core.Path.{◌≡◌, sym, ◌∙◌}
-use mathlib.Core.Bool.{true}
-use Prim.Native.Nat.{◌+◌, ◌-◌, ◌≤◌}
+use mathlib.Core.Path.{sym, ◌∙◌}
+use Prim.Native.Nat.{◌+◌}
 use native.Mathlib.Omega.{arith}
-use borrow.Author.Tests.{not-true, not-false}
 use lib.ListN.{length}
-use Rattle.lines.specs.Lines.{same_test}
 use Rattle.lines.proofs.Lines.{agree_none, agree_fails}
 use Rattle.lines.proofs.same_row.Goals as goal
 

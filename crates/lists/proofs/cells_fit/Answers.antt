@@ -5,8 +5,7 @@ use native.Mathlib.Omega.{arith}
 use lib.Dec.{leb}
 use Rattle.model.specs.declared.Checked.TheVariants.{Bad}
 use Rattle.model.specs.Refusal.{cell_refusal}
-use Rattle.model.proofs.Places.{small}
-use Rattle.model.proofs.Rules.{list_short, list_bad, list_passes}
+use Rattle.model.proofs.Rules.{list_bad, list_passes}
 use Rattle.lists.proofs.cells_fit.Goals as goal
 
 pub returns-then-i-s : goal.returns-then-i-s

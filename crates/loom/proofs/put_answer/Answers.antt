@@ -39,8 +39,8 @@ slice_bounds-put_policy-end-in-Domains-3 c = (stands (goal.at.slice_bounds-put_p
 pub put_policy-requires-clause-within : goal.put_policy-requires-clause-within
 put_policy-requires-clause-within c = let w = stands (goal.at.put_policy-requires-clause-within c).In-Domains in w.within
 
-pub put_policy-requires-clause-table_in_bounds : goal.put_policy-requires-clause-table_in_bounds
-put_policy-requires-clause-table_in_bounds c = let w = stands (goal.at.put_policy-requires-clause-table_in_bounds c).In-Domains in omega (arith, w.enough)
+pub put_policy-requires-clause-file_has_room : goal.put_policy-requires-clause-file_has_room
+put_policy-requires-clause-file_has_room c = let w = stands (goal.at.put_policy-requires-clause-file_has_room c).In-Domains in omega (arith, w.enough)
 
 pub put_refusal-requires : goal.put_refusal-requires
 put_refusal-requires c = let r = (shown (goal.at.put_refusal-requires c).In-Refused).0 in (r.number, r.place, omega arith)

@@ -4,7 +4,6 @@ use mathlib.Core.Path.{refl}
 use Prim.Native.Nat.{◌*◌}
 use native.Mathlib.Omega.{arith}
 use lib.ListN.{take}
-use Rattle.model.proofs.Places.{Small, small}
 use Rattle.layout.specs.Files.{MatrixFile}
 use Rattle.woven.specs.Weave.{refusal_text, Woven, formed}
 use Rattle.woven.proofs.Answers.{Shown, read-file, read-refused}

@@ -1,12 +1,9 @@
 -- `lowest::lowest_by_blocks` meets its contract. The invariant: none of the first i bytes is b or more. A block with no such byte
 -- moves i to its end; in the first block that has one, its lowest place is the whole's. Assumes nothing.
 use mathlib.Core.Path.{◌≡◌, sym, ap, ◌∙◌}
-use mathlib.Core.Bool.{false}
-use Prim.Native.Nat.{ℕ, ◌+◌, ◌-◌, ◌≤◌}
+use Prim.Native.Nat.{ℕ, ◌+◌}
 use native.Mathlib.Omega.{arith}
 use lib.Dec.{leb}
-use lib.ListN.{length}
-use Rattle.model.specs.Below.{any}
 use Rattle.model.specs.Rules.{lowest}
 use Rattle.model.proofs.Slices.{part, part_length}
 use Rattle.model.proofs.Loops.{any_none}

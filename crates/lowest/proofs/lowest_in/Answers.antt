@@ -1,12 +1,9 @@
 -- `lowest::lowest_in` meets its contract. The invariant: none of the first i bytes is b or more. Assumes nothing.
-use mathlib.Core.Path.{◌≡◌, sym, ◌∙◌}
-use mathlib.Core.Bool.{false}
-use Prim.Native.Nat.{◌-◌, ◌≤◌}
+use mathlib.Core.Path.{sym, ◌∙◌}
 use native.Mathlib.Omega.{arith}
 use borrow.Author.Tests.{le-leb, lt-leb}
 use lib.Dec.{leb}
-use lib.ListN.{length, get_or}
-use Rattle.model.specs.Below.{any}
+use lib.ListN.{get_or}
 use Rattle.model.proofs.Loops.{any_none, any_next}
 use Rattle.lowest.proofs.Lowest.{at, lowest_here, lowest_end}
 use Rattle.lowest.proofs.lowest_in.Goals as goal

@@ -1,11 +1,9 @@
 -- `lowest::reaches` meets its contract. The invariant: `found` says whether one of the first i bytes is b or more. Assumes nothing.
-use mathlib.Core.Path.{◌≡◌, sym}
+use mathlib.Core.Path.{◌≡◌}
 use Prim.Native.Nat.{◌-◌, ◌≤◌}
-use native.Mathlib.Omega.{arith}
 use lib.Dec.{leb}
 use lib.ListN.{length}
 use Rattle.model.specs.Below.{any}
-use Rattle.model.proofs.Loops.{any_none, any_next}
 use Rattle.lowest.proofs.Lowest.{at}
 use Rattle.lowest.proofs.reaches.Given as goal
 

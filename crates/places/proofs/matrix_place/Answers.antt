@@ -39,13 +39,18 @@ digit_at-k-requires c = omega (arith, piece_inside c.read_text-headed.ensures)
 
 pub read_records-filled-requires : goal.read_records-filled-requires
 read_records-filled-requires c =
-    let s = sizes (goal.at.read_records-filled-requires c).After-digit_at-k in
-    (omega (arith, piece_inside c.read_text-headed.ensures), omega arith, s.entities (omega arith), (limits (goal.at.read_records-filled-requires c).After-digit_at-k).row)
+    let s = sizes (goal.at.read_records-filled-requires c).After-digit_at-k in (
+      omega (arith, piece_inside c.read_text-headed.ensures),
+      omega arith,
+      s.entities (omega arith),
+      (limits (goal.at.read_records-filled-requires c).After-digit_at-k).row,
+    )
 
 pub returns-then-filled-end : goal.returns-then-filled-end
 returns-then-filled-end c =
     let p = c.read_text-headed.ensures in
-    matrix_filled _ _ _ _ (sizes (goal.at.returns-then-filled-end c).After-digit_at-k) (omega arith) _ p (omega arith) _ c.read_records-filled.ensures (omega arith)
+    matrix_filled _ _ _ _ (sizes (goal.at.returns-then-filled-end c).After-digit_at-k) (omega arith) _ p
+    (omega arith) _ c.read_records-filled.ensures (omega arith)
 
 pub read_close-requires : goal.read_close-requires
 read_close-requires c = omega (arith, piece_inside c.read_records-filled.ensures)
@@ -53,4 +58,5 @@ read_close-requires c = omega (arith, piece_inside c.read_records-filled.ensures
 pub returns : goal.returns
 returns c =
     let p = c.read_text-headed.ensures in
-    matrix_closed _ _ _ _ (sizes (goal.at.returns c).After-digit_at-k) (omega arith) _ p (omega arith) _ c.read_records-filled.ensures _ (omega arith) c.read_close.ensures
+    matrix_closed _ _ _ _ (sizes (goal.at.returns c).After-digit_at-k) (omega arith) _ p (omega arith) _ c.read_records-filled.ensures _
+    (omega arith) c.read_close.ensures

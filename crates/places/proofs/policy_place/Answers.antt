@@ -38,20 +38,30 @@ pub number_at-d-requires : goal.number_at-d-requires
 number_at-d-requires c = omega (arith, headed_inside _ _ _ _ _ c.read_head-headed.ensures)
 
 pub read_assigned-named-requires : goal.read_assigned-named-requires
-read_assigned-named-requires c = (omega (arith, headed_inside _ _ _ _ _ (sizes (goal.at.read_assigned-named-requires c).After-number_at-d)), (sizes (goal.at.read_assigned-named-requires c).After-number_at-d).entities (omega arith))
+read_assigned-named-requires c = (
+  omega (arith, headed_inside _ _ _ _ _ (sizes (goal.at.read_assigned-named-requires c).After-number_at-d)),
+  (sizes (goal.at.read_assigned-named-requires c).After-number_at-d).entities (omega arith),
+)
 
 pub returns-then-named-from : goal.returns-then-named-from
-returns-then-named-from c = policy_named _ _ _ _ _ (sizes (goal.at.returns-then-named-from c).After-number_at-d) (omega arith) _ c.read_assigned-named.ensures (omega arith)
+returns-then-named-from c =
+    policy_named _ _ _ _ _ (sizes (goal.at.returns-then-named-from c).After-number_at-d) (omega arith) _ c.read_assigned-named.ensures
+    (omega arith)
 
 pub read_records-filled-requires : goal.read_records-filled-requires
 read_records-filled-requires c =
-    let z = sizes (goal.at.read_records-filled-requires c).After-number_at-d in
-    (omega (arith, piece_inside c.read_assigned-named.ensures), omega arith, z.domains (omega arith), (limits (goal.at.read_records-filled-requires c).After-number_at-d).row)
+    let z = sizes (goal.at.read_records-filled-requires c).After-number_at-d in (
+      omega (arith, piece_inside c.read_assigned-named.ensures),
+      omega arith,
+      z.domains (omega arith),
+      (limits (goal.at.read_records-filled-requires c).After-number_at-d).row,
+    )
 
 pub returns-then-filled-end : goal.returns-then-filled-end
 returns-then-filled-end c =
     let p = c.read_assigned-named.ensures in
-    policy_filled _ _ _ _ _ (sizes (goal.at.returns-then-filled-end c).After-number_at-d) (omega arith) _ p (omega arith) _ _ refl c.read_records-filled.ensures (omega arith)
+    policy_filled _ _ _ _ _ (sizes (goal.at.returns-then-filled-end c).After-number_at-d) (omega arith) _ p
+    (omega arith) _ _ refl c.read_records-filled.ensures (omega arith)
 
 pub read_close-requires : goal.read_close-requires
 read_close-requires c = omega (arith, piece_inside c.read_records-filled.ensures)

@@ -30,7 +30,9 @@ pub read_number-counted-requires : goal.read_number-counted-requires
 read_number-counted-requires c = omega (arith, sized_inside c.read_sizes-sized.ensures)
 
 pub returns-then-counted-lt7 : goal.returns-then-counted-lt7
-returns-then-counted-lt7 c = head_counted _ _ _ _ c.read_sizes-sized.ensures (omega arith) _ _ (domains (goal.at.returns-then-counted-lt7 c).After-read_number-counted) (omega arith)
+returns-then-counted-lt7 c =
+    head_counted _ _ _ _ c.read_sizes-sized.ensures (omega arith) _ _
+    (domains (goal.at.returns-then-counted-lt7 c).After-read_number-counted) (omega arith)
 
 pub read_text-requires : goal.read_text-requires
 read_text-requires c = omega (arith, value_inside (domains (goal.at.read_text-requires c).After-read_number-counted))

@@ -1,10 +1,8 @@
 -- `readers::read_cells` meets its contract. The invariant: the bytes from `at` up to p are cells below lim. Where `strays` found none
 -- that holds at once of all up to e, which is the end of the w cells or that of the file. Assumes nothing.
 use mathlib.Core.Path.{◌≡◌, sym, ◌∙◌}
-use Prim.Native.Nat.{◌-◌, ◌≤◌}
 use native.Mathlib.Omega.{arith}
-use borrow.Author.Tests.{not-true}
-use Rattle.readers.proofs.Exits.{CellsTo, cells_none, cells_on, cells_off, cells_end, cells_block}
+use Rattle.readers.proofs.Exits.{cells_none, cells_on, cells_off, cells_end, cells_block}
 use Rattle.readers.proofs.read_cells.Goals as goal
 
 pub returns-then-not-strays : goal.returns-then-not-strays

@@ -1,9 +1,8 @@
 -- `readers::read_numbers` meets its contract. The invariant: u numbers are read, up to p. Assumes nothing.
 use mathlib.Core.Path.{refl}
-use Prim.Native.Nat.{◌-◌, ◌≤◌}
 use native.Mathlib.Omega.{arith}
-use Rattle.layout.specs.Layout.{number, numbers}
-use Rattle.layout.proofs.Stops.{Passed, passed_none, passed_inside, passed_next, passed_short, passed_all}
+use Rattle.layout.specs.Layout.{numbers}
+use Rattle.layout.proofs.Stops.{passed_none, passed_inside, passed_next, passed_short, passed_all}
 use Rattle.readers.proofs.read_numbers.Goals as goal
 
 pub loop-u-init : goal.loop-u-init

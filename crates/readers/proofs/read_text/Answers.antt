@@ -1,9 +1,6 @@
 -- `readers::read_text` meets its contract. The invariant: the first i bytes of the mark stand from `at` on. Assumes nothing.
-use Prim.Native.Nat.{◌+◌, ◌-◌, ◌≤◌}
 use native.Mathlib.Omega.{arith}
-use lib.ListN.{length}
-use Rattle.layout.proofs.Stops.{Passed}
-use Rattle.readers.proofs.Exits.{letter, text_none, text_out, text_off, text_on, text_all}
+use Rattle.readers.proofs.Exits.{text_none, text_out, text_off, text_on, text_all}
 use Rattle.readers.proofs.read_text.Goals as goal
 
 pub loop-i-init : goal.loop-i-init

@@ -1,9 +1,8 @@
 -- `readers::read_text` meets its contract. The invariant: the first i bytes of the mark stand from `at` on. Assumes nothing.
 use Prim.Native.Nat.{◌+◌, ◌-◌, ◌≤◌}
-use native.Mathlib.Omega.{arith}
 use lib.ListN.{length}
 use Rattle.layout.proofs.Stops.{Passed}
-use Rattle.readers.proofs.Exits.{letter, text_none, text_out, text_off, text_on, text_all}
+use Rattle.readers.proofs.Exits.{letter}
 use Rattle.readers.proofs.read_text.Given as goal
 
 abbrev pub invariant-loop-i : goal.invariant-loop-i

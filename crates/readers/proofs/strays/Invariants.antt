@@ -1,13 +1,11 @@
 -- `readers::strays` meets its contract. The invariant: `found` says whether one of the first i bytes is no cell below lim. Assumes nothing.
-use mathlib.Core.Path.{◌≡◌, sym}
+use mathlib.Core.Path.{◌≡◌}
 use mathlib.Core.Bool.{Bool}
 use mathlib.Core.List.{List}
 use Prim.Native.Nat.{ℕ, ◌-◌, ◌≤◌}
-use native.Mathlib.Omega.{arith}
 use lib.Dec.{leb}
 use lib.ListN.{length, get_or}
 use Rattle.model.specs.Below.{any}
-use Rattle.model.proofs.Loops.{any_none, any_next}
 use Rattle.layout.specs.Layout.{cell_of}
 use Rattle.readers.proofs.strays.Given as goal
 

@@ -1,9 +1,8 @@
 -- `records::read_records` meets its contract. The invariant: u records are read, up to p. Assumes nothing.
 use mathlib.Core.Path.{refl}
-use Prim.Native.Nat.{◌+◌, ◌-◌, ◌≤◌}
 use native.Mathlib.Omega.{arith}
-use Rattle.layout.specs.Layout.{record_of, records}
-use Rattle.layout.proofs.Stops.{Passed, passed_none, passed_inside, passed_next, passed_short, passed_all}
+use Rattle.layout.specs.Layout.{records}
+use Rattle.layout.proofs.Stops.{passed_none, passed_inside, passed_next, passed_short, passed_all}
 use Rattle.records.proofs.read_records.Goals as goal
 
 pub loop-u-init : goal.loop-u-init

@@ -1,9 +1,7 @@
 -- `records::read_records` meets its contract. The invariant: u records are read, up to p. Assumes nothing.
-use mathlib.Core.Path.{refl}
 use Prim.Native.Nat.{◌+◌, ◌-◌, ◌≤◌}
-use native.Mathlib.Omega.{arith}
-use Rattle.layout.specs.Layout.{record_of, records}
-use Rattle.layout.proofs.Stops.{Passed, passed_none, passed_inside, passed_next, passed_short, passed_all}
+use Rattle.layout.specs.Layout.{record_of}
+use Rattle.layout.proofs.Stops.{Passed}
 use Rattle.records.proofs.read_records.Given as goal
 
 abbrev pub invariant-loop-u : goal.invariant-loop-u

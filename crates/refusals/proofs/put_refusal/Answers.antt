@@ -12,4 +12,4 @@ pub returns-clause-output_after : goal.returns-clause-output_after
 returns-clause-output_after c =
     let start = c.before.before.before.before in
     let r = start.args.r in line_put r start.args.output.now start.requires.2 c.put.ensures c.put_number.ensures c.put_digit.ensures
-          c.put_number-2.ensures c.put_number-3.ensures c.put-2.ensures
+    c.put_number-2.ensures c.put_number-3.ensures c.put-2.ensures

@@ -1,12 +1,9 @@
 -- `rows::put_records` meets its contract. The invariant: the first u records are written, and `to` is where they end. Assumes nothing.
-use mathlib.Core.Path.{◌≡◌, ap}
-use Prim.Native.Nat.{◌+◌, ◌-◌, ◌*◌, ◌≤◌}
+use Prim.Native.Nat.{◌+◌}
 use native.Mathlib.Omega.{arith}
-use lib.ListN.{length}
-use lib.Seq.{sets, length-sets}
-use Rattle.layout.specs.Text.{each, record_text}
+use Rattle.layout.specs.Text.{record_text}
 use Rattle.layout.proofs.Each.{record_length}
-use Rattle.layout.proofs.Puts.{each_start, each_turn, piece_ends}
+use Rattle.layout.proofs.Puts.{each_start, each_turn}
 use Rattle.rows.proofs.put_records.Goals as goal
 
 pub loop-u-init : goal.loop-u-init

@@ -1,12 +1,8 @@
 -- `rows::put_records` meets its contract. The invariant: the first u records are written, and `to` is where they end. Assumes nothing.
-use mathlib.Core.Path.{◌≡◌, ap}
+use mathlib.Core.Path.{◌≡◌}
 use Prim.Native.Nat.{◌+◌, ◌-◌, ◌*◌, ◌≤◌}
-use native.Mathlib.Omega.{arith}
-use lib.ListN.{length}
-use lib.Seq.{sets, length-sets}
+use lib.Seq.{sets}
 use Rattle.layout.specs.Text.{each, record_text}
-use Rattle.layout.proofs.Each.{record_length}
-use Rattle.layout.proofs.Puts.{each_start, each_turn, piece_ends}
 use Rattle.rows.proofs.put_records.Given as goal
 
 abbrev pub invariant-loop-u : goal.invariant-loop-u

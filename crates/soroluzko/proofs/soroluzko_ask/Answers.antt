@@ -1,7 +1,7 @@
 -- `soroluzko::soroluzko_ask` meets its contract: what the call tells has room in its word (`Calls`). Assumes nothing.
-use mathlib.Core.Path.{sym, ap, ◌∙◌, subst}
+use mathlib.Core.Path.{sym, subst}
 use mathlib.Core.List.{[], ◌∷◌}
-use Rattle.word.specs.Word.{word, Held}
+use Rattle.word.specs.Word.{Held}
 use Rattle.words.proofs.Calls.{ask_held}
 use Rattle.soroluzko.proofs.soroluzko_ask.Goals as goal
 

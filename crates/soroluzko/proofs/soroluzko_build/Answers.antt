@@ -1,8 +1,8 @@
 -- `soroluzko::soroluzko_build` meets its contract: what the call tells has room in its word (`Calls`), and the buffers are as it leaves them.
 -- Assumes nothing.
-use mathlib.Core.Path.{sym, ap, ◌∙◌, subst}
+use mathlib.Core.Path.{sym, subst}
 use mathlib.Core.List.{[], ◌∷◌}
-use Rattle.word.specs.Word.{word, Held}
+use Rattle.word.specs.Word.{Held}
 use Rattle.words.proofs.Calls.{build_held}
 use Rattle.soroluzko.proofs.soroluzko_build.Goals as goal
 

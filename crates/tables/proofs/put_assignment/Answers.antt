@@ -1,9 +1,6 @@
 -- `tables::put_assignment` meets its contract. The invariant: the first i bytes are written. Assumes nothing.
-use mathlib.Core.Path.{◌≡◌, ap, ◌∙◌}
-use Prim.Native.Nat.{ℕ, ◌-◌, ◌≤◌}
 use native.Mathlib.Omega.{arith}
-use lib.ListN.{length}
-use Rattle.model.proofs.Loops.{filled, filled_none, filled_length, filled_next}
+use Rattle.model.proofs.Loops.{filled_none, filled_next}
 use Rattle.classes.specs.Members.{nth}
 use Rattle.tables.proofs.put_assignment.Goals as goal
 

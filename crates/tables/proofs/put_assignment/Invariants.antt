@@ -1,9 +1,7 @@
 -- `tables::put_assignment` meets its contract. The invariant: the first i bytes are written. Assumes nothing.
-use mathlib.Core.Path.{◌≡◌, ap, ◌∙◌}
-use Prim.Native.Nat.{ℕ, ◌-◌, ◌≤◌}
-use native.Mathlib.Omega.{arith}
-use lib.ListN.{length}
-use Rattle.model.proofs.Loops.{filled, filled_none, filled_length, filled_next}
+use mathlib.Core.Path.{◌≡◌}
+use Prim.Native.Nat.{◌-◌, ◌≤◌}
+use Rattle.model.proofs.Loops.{filled}
 use Rattle.classes.specs.Members.{nth}
 use Rattle.tables.proofs.put_assignment.Given as goal
 

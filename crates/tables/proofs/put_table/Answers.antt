@@ -1,12 +1,12 @@
 -- `tables::put_table` meets its contract. The invariant of each loop: `to` is the place of the cell that is next, and the table is filled
 -- up to there (`Grown`, since a loop inside another begins with a table that is filled in part). Assumes nothing.
 use mathlib.Core.Path.{◌≡◌, refl, ap, ◌∙◌}
-use Prim.Native.Nat.{ℕ, ◌-◌, ◌*◌, ◌≤◌, ◌<◌}
+use Prim.Native.Nat.{ℕ, ◌*◌, ◌≤◌, ◌<◌}
 use native.Mathlib.Omega.{arith}
 use lib.ListN.{length}
 use Rattle.model.specs.Matrix.{cell_at}
 use Rattle.model.specs.Built.{table_of}
-use Rattle.model.proofs.Loops.{filled, Grown, grown_none, grown_on, grown_next, grown_whole}
+use Rattle.model.proofs.Loops.{filled, grown_next, grown_whole}
 use Rattle.tables.proofs.Table.{table_cell, table_cell_lem, At, at}
 use Rattle.tables.proofs.put_table.Goals as goal
 use Rattle.tables.proofs.put_table.Goals.{After-shared_slice_known-1, In-loop-q}
@@ -43,7 +43,7 @@ long : (c : In-loop-q) → let a = c.args in a.d * a.k * a.d ≤ length c.loop-q
 long c =
     let inner = c.loop-q.invariant.2.long in
     let outer = c.loop-a.invariant.2.long in
-    omega (arith, inner, outer, c.loop-p.invariant.2.long, c.requires.d_in_bounds)
+    omega (arith, inner, outer, c.loop-p.invariant.2.long, c.requires.table_has_room)
 
 pub bounds-m-from : goal.bounds-m-from
 bounds-m-from c = omega (arith, (here (goal.at.bounds-m-from c).In-loop-q).reads, (row (goal.at.bounds-m-from c).After-shared_slice_known-1).reads)

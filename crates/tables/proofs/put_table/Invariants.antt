@@ -1,13 +1,10 @@
 -- `tables::put_table` meets its contract. The invariant of each loop: `to` is the place of the cell that is next, and the table is filled
 -- up to there (`Grown`, since a loop inside another begins with a table that is filled in part). Assumes nothing.
-use mathlib.Core.Path.{◌≡◌, refl, ap, ◌∙◌}
-use Prim.Native.Nat.{ℕ, ◌-◌, ◌*◌, ◌≤◌, ◌<◌}
-use native.Mathlib.Omega.{arith}
-use lib.ListN.{length}
+use mathlib.Core.Path.{◌≡◌}
+use Prim.Native.Nat.{◌-◌, ◌≤◌}
 use Rattle.model.specs.Matrix.{cell_at}
-use Rattle.model.specs.Built.{table_of}
-use Rattle.model.proofs.Loops.{filled, Grown, grown_none, grown_on, grown_next, grown_whole}
-use Rattle.tables.proofs.Table.{table_cell, table_cell_lem, At, at}
+use Rattle.model.proofs.Loops.{Grown}
+use Rattle.tables.proofs.Table.{table_cell}
 use Rattle.tables.proofs.put_table.Given as goal
 
 abbrev pub invariant-loop-q : goal.invariant-loop-q

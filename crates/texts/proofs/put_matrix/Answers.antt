@@ -4,14 +4,14 @@ use Prim.Native.Nat.{◌+◌, ◌*◌, ◌≤◌}
 use native.Mathlib.Nat.{mul_assoc}
 use native.Mathlib.Omega.{arith}
 use lib.ListN.{length}
-use Rattle.layout.proofs.Contents.{Short, short, matrix_length}
+use Rattle.layout.proofs.Contents.{matrix_length}
 use Rattle.texts.proofs.Put.{matrix_put}
 use Rattle.texts.proofs.put_matrix.Goals as goal
 use Rattle.texts.proofs.put_matrix.Goals.{After-slice_known-1}
 
 -- the room that there is
 room : (c : After-slice_known-1) → let a = c.args in 9 + a.n * (a.k * a.n + 5) ≤ length a.file.now
-room c = let a = c.args in omega (arith, matrix_length a.n a.k a.matrix.now, c.requires.matrix_in_bounds)
+room c = let a = c.args in omega (arith, matrix_length a.n a.k a.matrix.now, c.requires.file_has_room)
 
 pub put_sizes-requires : goal.put_sizes-requires
 put_sizes-requires c =
@@ -37,5 +37,5 @@ returns-clause-value c =
 
 pub returns-clause-file_after : goal.returns-clause-file_after
 returns-clause-file_after c =
-    let a = c.args in matrix_put a.n a.k a.matrix.now a.file.now _ _ _ _ c.requires.matrix_in_bounds c.put_sizes.ensures c.put.ensures
-          c.put_records.ensures c.put_close.ensures
+    let a = c.args in matrix_put a.n a.k a.matrix.now a.file.now _ _ _ _ c.requires.file_has_room c.put_sizes.ensures c.put.ensures
+    c.put_records.ensures c.put_close.ensures

@@ -2,7 +2,7 @@
 use mathlib.Core.Path.{◌≡◌, sym, ◌∙◌}
 use native.Mathlib.Omega.{arith}
 use Rattle.model.specs.declared.Checked.TheVariants.{Fine}
-use Rattle.model.specs.Policy.{Policy, policy}
+use Rattle.model.specs.Policy.{policy}
 use Rattle.model.specs.Refusal.{checked}
 use Rattle.model.specs.Rules.{size_rules, assignment_rules}
 use Rattle.model.proofs.Rules.{Sized, sizes_fine}
@@ -33,7 +33,8 @@ returns-in-Bad c =
 pub returns-in-Bad-domains : goal.returns-in-Bad-domains
 returns-in-Bad-domains c =
     let bad = sym c.assignment_fits-domains.ensures ∙ c.in-Bad-domains.is in
-    policy_names_bad c.args.n c.args.k (policy c.args.d c.args.assignment.now c.args.table.now) c.args.room (sized (goal.at.returns-in-Bad-domains c).In_default) _ bad
+    policy_names_bad c.args.n c.args.k (policy c.args.d c.args.assignment.now c.args.table.now) c.args.room
+    (sized (goal.at.returns-in-Bad-domains c).In_default) _ bad
 
 pub table_fits-cells-requires : goal.table_fits-cells-requires
 table_fits-cells-requires c = let s = limits (goal.at.table_fits-cells-requires c).In_default in (s.rights, s.domains)
@@ -41,7 +42,8 @@ table_fits-cells-requires c = let s = limits (goal.at.table_fits-cells-requires 
 pub returns-in-Bad-cells : goal.returns-in-Bad-cells
 returns-in-Bad-cells c =
     let bad = sym c.table_fits-cells.ensures ∙ c.in-Bad-cells.is in
-    policy_cells_bad c.args.n c.args.k (policy c.args.d c.args.assignment.now c.args.table.now) c.args.room (sized (goal.at.returns-in-Bad-cells c).In_default) (named (goal.at.returns-in-Bad-cells c).In_default-domains) _ bad
+    policy_cells_bad c.args.n c.args.k (policy c.args.d c.args.assignment.now c.args.table.now) c.args.room
+    (sized (goal.at.returns-in-Bad-cells c).In_default) (named (goal.at.returns-in-Bad-cells c).In_default-domains) _ bad
 
 pub overflow_mul-n : goal.overflow_mul-n
 overflow_mul-n c = omega (arith, (limits (goal.at.overflow_mul-n c).In_default).entities)
@@ -65,4 +67,5 @@ overflow_add-n-2 c =
 pub returns : goal.returns
 returns c =
     let cells = sym c.table_fits-cells.ensures ∙ c.in_default-cells.is in
-    policy_room_lem c.args.n c.args.k (policy c.args.d c.args.assignment.now c.args.table.now) c.args.room (sized (goal.at.returns c).In_default) (named (goal.at.returns c).In_default-domains) _ cells c.room_fits.ensures
+    policy_room_lem c.args.n c.args.k (policy c.args.d c.args.assignment.now c.args.table.now) c.args.room
+    (sized (goal.at.returns c).In_default) (named (goal.at.returns c).In_default-domains) _ cells c.room_fits.ensures

@@ -1,11 +1,9 @@
 -- `writers::put` meets its contract. The invariant: the first i bytes of the text are written. Assumes nothing.
 use mathlib.Core.Path.{◌≡◌, refl, ap, ◌∙◌}
-use mathlib.Core.List.{List}
-use Prim.Native.Nat.{ℕ, ◌+◌, ◌-◌, ◌≤◌}
+use Prim.Native.Nat.{◌+◌}
 use native.Mathlib.Omega.{arith}
-use lib.ListN.{length, get_or}
-use lib.Seq.{sets, length-sets}
-use Rattle.model.specs.Below.{tab}
+use lib.ListN.{length}
+use lib.Seq.{sets}
 use Rattle.layout.proofs.Each.{tab_list}
 use Rattle.layout.proofs.Puts.{tab_start, tab_turn}
 use Rattle.writers.proofs.put.Goals as goal

@@ -1,13 +1,10 @@
 -- `writers::put` meets its contract. The invariant: the first i bytes of the text are written. Assumes nothing.
-use mathlib.Core.Path.{◌≡◌, refl, ap, ◌∙◌}
+use mathlib.Core.Path.{◌≡◌}
 use mathlib.Core.List.{List}
-use Prim.Native.Nat.{ℕ, ◌+◌, ◌-◌, ◌≤◌}
-use native.Mathlib.Omega.{arith}
+use Prim.Native.Nat.{ℕ, ◌-◌, ◌≤◌}
 use lib.ListN.{length, get_or}
-use lib.Seq.{sets, length-sets}
+use lib.Seq.{sets}
 use Rattle.model.specs.Below.{tab}
-use Rattle.layout.proofs.Each.{tab_list}
-use Rattle.layout.proofs.Puts.{tab_start, tab_turn}
 use Rattle.writers.proofs.put.Given as goal
 
 abbrev pub byte : List ℕ → ℕ → ℕ

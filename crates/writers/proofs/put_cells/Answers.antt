@@ -1,12 +1,7 @@
 -- `writers::put_cells` meets its contract. The invariant: the characters of the first i cells are written. Assumes nothing.
-use mathlib.Core.Path.{◌≡◌, refl, ap}
-use mathlib.Core.List.{List}
-use Prim.Native.Nat.{ℕ, ◌+◌, ◌-◌, ◌≤◌}
+use mathlib.Core.Path.{refl}
+use Prim.Native.Nat.{◌+◌}
 use native.Mathlib.Omega.{arith}
-use lib.ListN.{length, get_or}
-use lib.Seq.{sets, length-sets}
-use Rattle.model.specs.Below.{tab}
-use Rattle.layout.specs.Text.{cell_char}
 use Rattle.layout.proofs.Puts.{tab_start, tab_turn}
 use Rattle.writers.proofs.put_cells.Goals as goal
 use Rattle.writers.proofs.put_cells.Invariants.{char}

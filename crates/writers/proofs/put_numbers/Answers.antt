@@ -1,11 +1,7 @@
 -- `writers::put_numbers` meets its contract. The invariant: the first u numbers are written, two digits each. Assumes nothing.
-use mathlib.Core.Path.{◌≡◌, refl, ap}
-use mathlib.Core.List.{List}
-use Prim.Native.Nat.{ℕ, ◌+◌, ◌-◌, ◌*◌, ◌≤◌}
+use mathlib.Core.Path.{refl}
+use Prim.Native.Nat.{◌+◌, ◌*◌}
 use native.Mathlib.Omega.{arith}
-use lib.ListN.{length, get_or}
-use lib.Seq.{sets, length-sets}
-use Rattle.layout.specs.Text.{each, two}
 use Rattle.layout.proofs.Puts.{each_start, each_turn}
 use Rattle.writers.proofs.put_numbers.Goals as goal
 use Rattle.writers.proofs.put_numbers.Invariants.{digits}

@@ -1,12 +1,10 @@
 -- `writers::put_numbers` meets its contract. The invariant: the first u numbers are written, two digits each. Assumes nothing.
-use mathlib.Core.Path.{◌≡◌, refl, ap}
+use mathlib.Core.Path.{◌≡◌}
 use mathlib.Core.List.{List}
-use Prim.Native.Nat.{ℕ, ◌+◌, ◌-◌, ◌*◌, ◌≤◌}
-use native.Mathlib.Omega.{arith}
+use Prim.Native.Nat.{ℕ, ◌-◌, ◌≤◌}
 use lib.ListN.{length, get_or}
-use lib.Seq.{sets, length-sets}
+use lib.Seq.{sets}
 use Rattle.layout.specs.Text.{each, two}
-use Rattle.layout.proofs.Puts.{each_start, each_turn}
 use Rattle.writers.proofs.put_numbers.Given as goal
 
 abbrev pub digits : List ℕ → ℕ → List ℕ
