@@ -2,39 +2,16 @@
 
 #![tactic(auto)]
 
-ghost use Rattle.std.specs.Prelude.{◌≡◌};
-ghost use Rattle.model.specs.Refusal.{checked};
-ghost use Rattle.alike.specs.Compare.{Compares, alike_rules};
+ghost use Rattle.alike.specs.Compare.{Compares};
 
-use model::{Checked, Refusal};
-
-#[derive(Drop)]
-pub enum Compared {
-    Yes,
-    No,
-    Refused(Refusal),
-}
+use model::Refusal;
 
 // Whether u and v are alike in a full matrix. Refused in this order: 1; 2; 3; 4; 9.
-pub fn alike(n: usize, k: usize, u: usize, v: usize, matrix: &[u8]) -> Compared
+#[tactic(auto, using(model::proofs::Rules::decided), unfolding(crate::specs::Compare::alike_rules, crate::specs::Compare::alike_told))]
+pub fn alike(n: usize, k: usize, u: usize, v: usize, matrix: &[u8]) -> Result<bool, Refusal>
     ensures { Compares n k u v matrix.now result }
 {
-    let fits = alike_fits(n, k, u, v, matrix);
-    if let Checked::Bad(r) = fits {
-        return Compared::Refused(r);
-    }
-    if clauses::same(n, k, u, v, matrix) {
-        return Compared::Yes;
-    }
-    Compared::No
-}
-
-fn alike_fits(n: usize, k: usize, u: usize, v: usize, matrix: &[u8]) -> Checked
-    ensures { result ≡ checked (alike_rules n k u v matrix.now) }
-{
-    let whole = lists::whole_fits(n, k, matrix);
-    if let Checked::Bad(r) = whole {
-        return Checked::Bad(r);
-    }
-    scan::pair_fits(n, u, v)
+    let m = lists::whole(n, k, matrix)?;
+    scan::pair_fits(n, u, v)?;
+    Ok(clauses::same(&m, u, v))
 }

@@ -1,21 +1,21 @@
--- Each exit of the ask: the rules before it do not apply, and the one that does decides. Assumes nothing.
+-- The groups of the ask: the rules before one do not apply, and where it refuses it decides. Assumes nothing.
 use mathlib.Core.Path.{◌≡◌, sym, ap, ◌∙◌}
-use mathlib.Core.List.{List, [], ◌∷◌, ◌++◌}
-use Prim.Native.Nat.{ℕ, ◌*◌, ◌≤◌, ◌<◌}
-use native.Mathlib.Omega.{arith}
-use borrow.Author.Tests.{lt-ltb, le-ltb, le-leb, lt-leb, eq-eqb, ne_eqb}
-use lib.Dec.{ltb}
-use lib.ListN.{length, get_or}
+use mathlib.Core.List.{List, ◌∷◌, ◌++◌}
+use Prim.Native.Nat.{ℕ, ◌*◌}
+use lib.ListN.{length}
+use Rattle.model.specs.declared.Fault.TheVariants.{AssignmentLength, TableLength}
 use Rattle.model.specs.declared.Refusal.{Refusal}
-use Rattle.model.specs.declared.Checked.{Checked}
-use Rattle.model.specs.declared.Checked.TheVariants.{Fine, Bad}
-use Rattle.model.specs.Matrix.{cell_at, cell}
-use Rattle.model.specs.Policy.{Policy, domain_of, answer}
-use Rattle.model.specs.Refusal.{Rule, rule, refusal, cell_refusal, checked, Told, values, refused, tell}
+use Rattle.model.specs.Refusal.{Checked, Rule, checked, told_refusal, tell}
+use Rattle.std.specs.Prelude.{Ok, Err}
+use Rattle.model.specs.Policy.{Policy}
 use Rattle.model.specs.Rules.{length_rule, size_rules, request_rules}
-use Rattle.model.proofs.Groups.{group_fine, group_bad}
-use Rattle.model.proofs.Rules.{length_pass, length_bad}
+use Rattle.model.proofs.Groups.{tests, group_fine, group_bad}
+use Rattle.model.proofs.Rules.{length_pass, decided}
+use Rattle.model.proofs.Places.{small}
 use Rattle.ask.specs.Ask.{look_rules, ask_rules, granted, ask_told}
+
+-- what the ask goes by
+pub ruleset exits = (decided, tests, small)
 
 module _ (n k u a v : ℕ) (P : Policy) where
   size : ℕ
@@ -26,79 +26,39 @@ module _ (n k u a v : ℕ) (P : Policy) where
   from9 = request_rules n k u a v ++ look_rules k u a v P
 
   from7 : List Rule
-  from7 = length_rule 7 (length P.table) size ∷ from9
+  from7 = length_rule TableLength (length P.table) size ∷ from9
 
   from5 : List Rule
-  from5 = length_rule 5 (length P.assignment) n ∷ from7
+  from5 = length_rule AssignmentLength (length P.assignment) n ∷ from7
 
   -- what the rules find is what is told
   pub told : (c : Checked) → checked (ask_rules n k u a v P) ≡ c → tell c (granted k P u a v) ≡ ask_told n k u a v P
   unfolding ask_told
   told c e = ap (λ (x : Checked). tell x (granted k P u a v)) (sym e)
 
-  pub sizes_bad : (r : Refusal) → checked (size_rules n k P.domains) ≡ Bad r → refused r ≡ ask_told n k u a v P
+  pub sizes_bad : (r : Refusal) → checked (size_rules n k P.domains) ≡ Err r → told_refusal r ≡ ask_told n k u a v P
   unfolding ask_rules
-  sizes_bad r e = told (Bad r) (group_bad (size_rules n k P.domains) _ r e)
+  sizes_bad r e = told (Err r) (group_bad (size_rules n k P.domains) _ r e)
 
-  module _ (sized : checked (size_rules n k P.domains) ≡ Fine) where
+  module _ (sized : checked (size_rules n k P.domains) ≡ Ok tt) where
     after1 : checked (ask_rules n k u a v P) ≡ checked from5
     unfolding ask_rules from5 from7 from9 size
     after1 = group_fine (size_rules n k P.domains) from5 sized
 
-    pub assignment_bad : ¬ (length P.assignment ≡ n) → refused (refusal 5 0) ≡ ask_told n k u a v P
-    unfolding from5
-    assignment_bad f = told (Bad (refusal 5 0)) (after1 ∙ length_bad 5 (length P.assignment) n from7 f)
-
     module _ (entities : length P.assignment ≡ n) where
       after5 : checked (ask_rules n k u a v P) ≡ checked from7
       unfolding from5
-      after5 = after1 ∙ length_pass 5 (length P.assignment) n from7 entities
-
-      pub table_bad : ¬ (length P.table ≡ P.domains * k * P.domains) → refused (refusal 7 0) ≡ ask_told n k u a v P
-      unfolding from7 size
-      table_bad f = told (Bad (refusal 7 0)) (after5 ∙ length_bad 7 (length P.table) size from9 f)
+      after5 = after1 ∙ length_pass AssignmentLength (length P.assignment) n from7 entities
 
       module _ (cells : length P.table ≡ P.domains * k * P.domains) where
         after7 : checked (ask_rules n k u a v P) ≡ checked from9
         unfolding from7 size
-        after7 = after5 ∙ length_pass 7 (length P.table) size from9 cells
+        after7 = after5 ∙ length_pass TableLength (length P.table) size from9 cells
 
-        pub request_bad : (r : Refusal) → checked (request_rules n k u a v) ≡ Bad r → refused r ≡ ask_told n k u a v P
+        pub request_bad : (r : Refusal) → checked (request_rules n k u a v) ≡ Err r → told_refusal r ≡ ask_told n k u a v P
         unfolding from9
-        request_bad r e = told (Bad r) (after7 ∙ group_bad (request_rules n k u a v) (look_rules k u a v P) r e)
+        request_bad r e = told (Err r) (after7 ∙ group_bad (request_rules n k u a v) (look_rules k u a v P) r e)
 
-        pub looks : checked (request_rules n k u a v) ≡ Fine → checked (ask_rules n k u a v P) ≡ checked (look_rules k u a v P)
+        pub looks : checked (request_rules n k u a v) ≡ Ok tt → checked (ask_rules n k u a v P) ≡ checked (look_rules k u a v P)
         unfolding from9
         looks e = after7 ∙ group_fine (request_rules n k u a v) (look_rules k u a v P) e
-
--- ---- the exits of the look, where i is the cell's place
-
-module _ (k u a v : ℕ) (P : Policy) where
-  abbrev pub looked : Told
-  looked = tell (checked (look_rules k u a v P)) (granted k P u a v)
-
-  pub sender_bad : P.domains ≤ domain_of P u → refused (refusal 6 u) ≡ looked
-  unfolding look_rules
-  sender_bad h = rw (le-leb P.domains (domain_of P u) h)
-
-  pub receiver_bad : domain_of P u < P.domains → P.domains ≤ domain_of P v → refused (refusal 6 v) ≡ looked
-  unfolding look_rules
-  receiver_bad h l = rw (lt-leb P.domains (domain_of P u) h, le-leb P.domains (domain_of P v) l)
-
-  module _ (i : ℕ) (e : i ≡ cell_at k P.domains (domain_of P u) a (domain_of P v)) (h : domain_of P u < P.domains) (l : domain_of P v < P.domains) where
-    at : get_or P.table i 0 ≡ answer k P u a v
-    unfolding answer cell
-    at = ap (λ (j : ℕ). get_or P.table j 0) e
-
-    cell_rule : looked ≡ tell (checked (rule (ltb 1 (answer k P u a v)) (cell_refusal 8 k P.domains i) ∷ [])) (granted k P u a v)
-    unfolding look_rules
-    cell_rule = rw (lt-leb P.domains (domain_of P u) h, lt-leb P.domains (domain_of P v) l, e)
-
-    pub cell_bad : 1 < get_or P.table i 0 → refused (cell_refusal 8 k P.domains i) ≡ looked
-    cell_bad b = sym (cell_rule ∙ rw (lt-ltb 1 (answer k P u a v) (omega (arith, at))))
-
-    pub cell_grants : get_or P.table i 0 ≡ 1 → values (1 ∷ []) ≡ looked
-    cell_grants b = sym (cell_rule ∙ rw (le-ltb 1 (answer k P u a v) (omega (arith, at)), eq-eqb (answer k P u a v) 1 (sym at ∙ b)))
-
-    pub cell_denies : get_or P.table i 0 ≤ 1 → ¬ (get_or P.table i 0 ≡ 1) → values (0 ∷ []) ≡ looked
-    cell_denies b f = sym (cell_rule ∙ rw (le-ltb 1 (answer k P u a v) (omega (arith, at)), ne_eqb (answer k P u a v) 1 (λ g. f (at ∙ g))))

@@ -7,17 +7,11 @@ ghost use Rattle.model.specs.Policy.{policy};
 ghost use Rattle.model.specs.Refusal.{checked, tell};
 ghost use Rattle.ask.specs.Ask.{look_rules, granted, asked_told, Answers};
 
-use model::{Checked, Refusal};
+use model::{Fault, Refusal};
 
-#[derive(Drop)]
-pub enum Asked {
-    Grant,
-    Deny,
-    Refused(Refusal),
-}
-
-// Grant if the policy of d domains grants (u, a, v), and deny otherwise. Refused in this order: 1; 5; 7; 9; 6 for u; 6 for v; 8 for
+// Whether the policy of d domains grants (u, a, v). Refused in this order: 1; 5; 7; 9; 6 for u; 6 for v; 8 for
 // the one cell that is read.
+#[tactic(auto, using(crate::proofs::Exits::exits), unfolding(crate::specs::Ask::ask_rules, crate::specs::Ask::ask_told))]
 pub fn ask(
     n: usize,
     k: usize,
@@ -27,28 +21,31 @@ pub fn ask(
     v: usize,
     assignment: &[u8],
     table: &[u8],
-) -> Asked
+) -> Result<bool, Refusal>
     ensures { Answers n k u a v (policy d assignment.now table.now) result }
 {
-    let sized = scan::sizes(n, k, d);
-    if let Checked::Bad(r) = sized {
-        return Asked::Refused(r);
-    }
+    scan::sizes(n, k, d)?;
     if assignment.len() != n {
-        return Asked::Refused(scan::refuse(5, 0));
+        return Err(scan::refuse(Fault::AssignmentLength, 0));
     }
     if table.len() != d * k * d {
-        return Asked::Refused(scan::refuse(7, 0));
+        return Err(scan::refuse(Fault::TableLength, 0));
     }
-    let request = scan::request_fits(n, k, u, a, v);
-    if let Checked::Bad(r) = request {
-        return Asked::Refused(r);
-    }
+    scan::request_fits(n, k, u, a, v)?;
     look(k, d, u, a, v, assignment, table)
 }
 
 // The ask once sizes, lengths and request are in order: two domain numbers and one cell are read.
-fn look(k: usize, d: usize, u: usize, a: usize, v: usize, assignment: &[u8], table: &[u8]) -> Asked
+#[tactic(auto, unfolding(crate::specs::Ask::look_rules, model::specs::Policy::domain_of, model::specs::Policy::answer, model::specs::Matrix::cell))]
+fn look(
+    k: usize,
+    d: usize,
+    u: usize,
+    a: usize,
+    v: usize,
+    assignment: &[u8],
+    table: &[u8],
+) -> Result<bool, Refusal>
     requires table_laid { (k ≤ 8) × (d ≤ 64) × (length table.now ≡ d * k * d) }
     requires request_in_range { (u < length assignment.now) × (a < k) × (v < length assignment.now) }
     ensures { asked_told result
@@ -57,19 +54,16 @@ fn look(k: usize, d: usize, u: usize, a: usize, v: usize, assignment: &[u8], tab
 {
     let p = assignment[u] as usize;
     if d <= p {
-        return Asked::Refused(scan::refuse(6, u));
+        return Err(scan::refuse(Fault::DomainNumber, u));
     }
     let q = assignment[v] as usize;
     if d <= q {
-        return Asked::Refused(scan::refuse(6, v));
+        return Err(scan::refuse(Fault::DomainNumber, v));
     }
     let i = scan::cell_at(d, k, d, p, a, q);
     let x = table[i];
     if 1 < x {
-        return Asked::Refused(scan::refuse_cell(8, k, d, i));
+        return Err(scan::refuse_cell(Fault::TableCell, k, d, i));
     }
-    if x == 1 {
-        return Asked::Grant;
-    }
-    Asked::Deny
+    Ok(x == 1)
 }

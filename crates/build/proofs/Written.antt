@@ -5,7 +5,8 @@ use mathlib.Core.List.{List, [], ◌∷◌, ◌++◌}
 use Prim.Native.Nat.{ℕ, ◌*◌, ◌<◌}
 use lib.ListN.{length, get_or, take, drop, get_or-append}
 use lib.Seq.{take_at, drop_at}
-use Rattle.model.specs.declared.Checked.TheVariants.{Fine}
+use Rattle.std.specs.Prelude.{Ok}
+use Rattle.model.specs.declared.Fault.TheVariants.{AssignmentRoom, Room}
 use Rattle.model.specs.Matrix.{cell, Holds}
 use Rattle.model.specs.Policy.{policy, written, domain_of}
 use Rattle.model.specs.Refusal.{checked}
@@ -13,13 +14,12 @@ use Rattle.model.specs.Rules.{whole_rules, room_rules}
 use Rattle.model.proofs.Built.{built_entities, built_size}
 use Rattle.model.proofs.Groups.{told_fine, held_fine, groups_fine}
 use Rattle.model.proofs.Rules.{whole_fine}
-use Rattle.build.specs.declared.Built.TheVariants.{Domains}
 use Rattle.build.specs.Build.{built_from, table_size, build_rules, build_told, Builds}
 
 module _ (n k : ℕ) (m s t s' t' : List ℕ) where
-  module _ (d : ℕ) (b : Builds n k m s t (Domains d) s' t') where
+  module _ (d : ℕ) (b : Builds n k m s t (Ok d) s' t') where
     -- no rule applied, and d is the built policy's
-    shown : (checked (build_rules n k m (length s) (length t)) ≡ Fine) × ((d ∷ []) ≡ ((built_from n k m).domains ∷ []))
+    shown : (checked (build_rules n k m (length s) (length t)) ≡ Ok tt) × ((d ∷ []) ≡ ((built_from n k m).domains ∷ []))
     unfolding build_told
     shown = told_fine (checked (build_rules n k m (length s) (length t))) (d ∷ []) ((built_from n k m).domains ∷ []) b.told
 
@@ -29,7 +29,9 @@ module _ (n k : ℕ) (m s t s' t' : List ℕ) where
     -- so the matrix is full
     pub whole_built : Holds n k 2 m
     unfolding build_rules
-    whole_built = whole_fine n k m (groups_fine (whole_rules n k m) (room_rules 10 (length s) n ++ room_rules 11 (length t) (table_size n k m)) shown.0).0
+    whole_built =
+        let rooms = room_rules AssignmentRoom (length s) n ++ room_rules Room (length t) (table_size n k m) in
+        whole_fine n k m (groups_fine (whole_rules n k m) rooms shown.0).0
 
     bytes : s' ≡ (built_from n k m).assignment ++ drop n s
     bytes = b.assignment ∙ sym (held_fine _ shown.0 (built_from n k m).assignment s n (built_entities n k (cell k n m)))

@@ -1,12 +1,12 @@
 -- What the build answers, and what it writes (01, "The calls" and "Numbers of refusal"). Assumes nothing.
-use Rattle.std.specs.Prelude.{◌≡◌, List, [], ◌∷◌, ◌++◌, ℕ, ◌*◌, length}
+use Rattle.std.specs.Prelude.{◌≡◌, List, [], ◌∷◌, ◌++◌, ℕ, ◌*◌, length, Result}
+use Rattle.model.specs.declared.Fault.TheVariants.{AssignmentRoom, Room}
+use Rattle.model.specs.declared.Refusal.{Refusal}
 use Rattle.model.specs.Matrix.{cell}
 use Rattle.model.specs.Policy.{Policy}
 use Rattle.model.specs.Built.{built}
-use Rattle.model.specs.Refusal.{Rule, checked, Told, values, refused, tell, held}
+use Rattle.model.specs.Refusal.{Rule, checked, Told, tell, told, single, held}
 use Rattle.model.specs.Rules.{whole_rules, room_rules}
-use Rattle.build.specs.declared.Built.{Built}
-use Rattle.build.specs.declared.Built.TheVariants.{Domains, Refused}
 
 -- the policy built from the matrix m
 abbrev pub built_from : ℕ → ℕ → List ℕ → Policy
@@ -18,16 +18,19 @@ table_size n k m = (built_from n k m).domains * k * (built_from n k m).domains
 
 -- 1, 2, 3, 4, 10, 11, over buffers of x and y bytes
 unfoldable pub build_rules : ℕ → ℕ → List ℕ → ℕ → ℕ → List Rule
-build_rules n k m x y = whole_rules n k m ++ (room_rules 10 x n ++ room_rules 11 y (table_size n k m))
+build_rules n k m x y = whole_rules n k m ++ (room_rules AssignmentRoom x n ++ room_rules Room y (table_size n k m))
 
 -- what is told: the first of the rules that applies, or the number of domains
 unfoldable pub build_told : ℕ → ℕ → List ℕ → ℕ → ℕ → Told
 build_told n k m x y = tell (checked (build_rules n k m x y)) ((built_from n k m).domains ∷ [])
 
+-- what the build answers: the number of domains, or a refusal
+abbrev pub Built : Type 0
+Built = Result ℕ Refusal
+
 -- the answer's number and values, case by case
 abbrev pub built_told : Built → Told
-built_told (Domains d) = values (d ∷ [])
-built_told (Refused r) = refused r
+built_told r = told single r
 
 -- what the two buffers hold after the call, s and t being what they held before it
 abbrev pub assignment_left : ℕ → ℕ → List ℕ → List ℕ → List ℕ → List ℕ

@@ -7,7 +7,8 @@ use Prim.Native.Nat.{ℕ, ◌≤◌, ◌<◌}
 use native.Mathlib.Nat.{le_trans}
 use native.Mathlib.Omega.{arith}
 use lib.ListN.{get_or}
-use Rattle.model.specs.declared.Checked.TheVariants.{Fine}
+use mathlib.Core.Bool.{true, false}
+use Rattle.std.specs.Prelude.{Ok}
 use Rattle.model.specs.Matrix.{cell, Holds, Full}
 use Rattle.model.specs.Policy.{Policy, written, Within, domain_of, answer, Agrees, used}
 use Rattle.model.specs.Refusal.{checked, Unrefused}
@@ -15,15 +16,11 @@ use Rattle.model.specs.Rules.{whole_rules, pair_rules}
 use Rattle.model.proofs.Built.{built_few, built_used, built_cell, built_alike, built_valid, built_enforces, built_together, built_fewest}
 use Rattle.model.proofs.Groups.{group_fine}
 use Rattle.model.proofs.Rules.{whole_full, whole_pass, pair_pass}
-use Rattle.ask.specs.declared.Asked.{Asked}
-use Rattle.ask.specs.declared.Asked.TheVariants.{Grant, Deny}
-use Rattle.ask.specs.Ask.{ask_rules, Answers}
+use Rattle.ask.specs.Ask.{ask_rules, Answers, Asked}
 use Rattle.alike.specs.Compare.{alike_rules}
-use Rattle.build.specs.declared.Built.TheVariants.{Domains}
 use Rattle.build.specs.Build.{built_from, Builds}
-use Rattle.judge.specs.declared.Judged.{Judged}
-use Rattle.judge.specs.declared.Judged.TheVariants.{Enforces}
-use Rattle.judge.specs.Judge.{judge_rules, Judges}
+use Rattle.judge.specs.declared.Verdict.TheVariants.{Enforces}
+use Rattle.judge.specs.Judge.{judge_rules, Judges, Judged}
 use Rattle.judge.proofs.Exits.{judgeable}
 use Rattle.claims.specs.Across.{BuiltAccepted, BuiltAnswers, BuiltShares, AlikeShares, AcceptedFewest}
 use Rattle.claims.proofs.Ask.{ask_grants, ask_serves}
@@ -32,7 +29,7 @@ use Rattle.build.proofs.Written.{domains_told, whole_built, policy_written, byte
 use Rattle.claims.proofs.Judge.{enforcing, judge_accepts, judge_serves}
 
 -- of a build that answered d and left s' and t': the matrix is full, and what was written is the built policy
-module _ (n k d : ℕ) (m s t s' t' : List ℕ) (b : Builds n k m s t (Domains d) s' t') where
+module _ (n k d : ℕ) (m s t s' t' : List ℕ) (b : Builds n k m s t (Ok d) s' t') where
   whole : Holds n k 2 m
   whole = whole_built n k m s t s' t' d b
 
@@ -51,7 +48,7 @@ module _ (n k d : ℕ) (m s t s' t' : List ℕ) (b : Builds n k m s t (Domains d
   judged : Unrefused (judge_rules n k m (built_from n k m))
   judged = judge_serves n k m (built_from n k m) (record { laid = whole.laid; below = λ i h. omega (arith, whole.below i h) }) within
 
-  accepted : (P : Policy) → P ≡ built_from n k m → (j : Judged) → Judges n k m P j → j ≡ Enforces d
+  accepted : (P : Policy) → P ≡ built_from n k m → (j : Judged) → Judges n k m P j → j ≡ Ok (Enforces d)
   accepted P e j p = (judge_accepts n k m P j p d).1 (
     subst (λ (Q : Policy). Unrefused (judge_rules n k m Q)) (sym e) judged,
     subst (λ (Q : Policy). Agrees n k (cell k n m) (answer k Q)) (sym e) (built_enforces n k (cell k n m)),
@@ -59,13 +56,13 @@ module _ (n k d : ℕ) (m s t s' t' : List ℕ) (b : Builds n k m s t (Domains d
   )
 
   -- no accepted policy has fewer than d domains with a member, and the built one, which is accepted, has d
-  at_least : (P : Policy) (x : ℕ) → Judges n k m P (Enforces x) → d ≤ used n P
+  at_least : (P : Policy) (x : ℕ) → Judges n k m P (Ok (Enforces x)) → d ≤ used n P
   at_least P x p =
-      let a = (judge_accepts n k m P (Enforces x) p x).0 refl in
+      let a = (judge_accepts n k m P (Ok (Enforces x)) p x).0 refl in
       let fewest = built_fewest n k (cell k n m) full P (judgeable n k m P a.0).1.valid a.1 in
       omega (arith, domains_told n k m s t s' t' d b, fewest)
 
-  at_most : (e : ℕ) → ((P : Policy) (x : ℕ) → Judges n k m P (Enforces x) → e ≤ used n P) → e ≤ d
+  at_most : (e : ℕ) → ((P : Policy) (x : ℕ) → Judges n k m P (Ok (Enforces x)) → e ≤ used n P) → e ≤ d
   at_most e f =
       let told = domains_told n k m s t s' t' d b in
       let accepts = enforcing n k m (built_from n k m) judged (built_enforces n k (cell k n m)) d told in
@@ -80,7 +77,7 @@ module _ (n k d : ℕ) (m s t s' t' : List ℕ) (b : Builds n k m s t (Domains d
     cell_answered P e = ap (λ (Q : Policy). answer k Q u a v) e ∙ built_cell n k (cell k n m) u a v hu ha hv
 
     answers : (P : Policy) → P ≡ built_from n k m → (r : Asked) → Answers n k u a v P r
-        → ((r ≡ Grant) ↔ (cell k n m u a v ≡ 1)) × ((r ≡ Deny) ↔ (cell k n m u a v ≡ 0))
+        → ((r ≡ Ok true) ↔ (cell k n m u a v ≡ 1)) × ((r ≡ Ok false) ↔ (cell k n m u a v ≡ 0))
     unfolding Full
     answers P e r p =
         let g = ask_grants n k u a v P r p in
@@ -101,7 +98,7 @@ module _ (n k d : ℕ) (m s t s' t' : List ℕ) (b : Builds n k m s t (Domains d
         let q = byte_written n k m s t s' t' d b v hv in
         (λ e. sym p ∙ e ∙ q, λ e. p ∙ e ∙ sym q)
 
-    pair_served : checked (alike_rules n k u v m) ≡ Fine
+    pair_served : checked (alike_rules n k u v m) ≡ Ok tt
     unfolding alike_rules
     pair_served = group_fine (whole_rules n k m) (pair_rules n u v) (whole_pass n k m whole) ∙ pair_pass n u v hu hv
 

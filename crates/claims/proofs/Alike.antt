@@ -1,44 +1,29 @@
 -- The claims on the alike call. Where no rule applies the two are entities, for which the test is Definition 2.11; and what is told
 -- determines the answer. Assumes nothing.
-use mathlib.Core.Path.{◌≡◌, refl, sym, ap, ◌∙◌}
+use mathlib.Core.Path.{◌≡◌, sym, ap, ◌∙◌}
 use mathlib.Core.Bool.{Bool, true, false, cond}
 use mathlib.Core.List.{List, [], ◌∷◌}
 use Prim.Native.Nat.{ℕ, ◌<◌}
 use native.Mathlib.Omega.{arith}
 use lib.Dec.{T}
-use Rattle.model.specs.declared.Checked.TheVariants.{Fine}
+use Rattle.std.specs.Prelude.{Ok}
 use Rattle.model.specs.Matrix.{cell}
 use Rattle.model.specs.Alike.{Alike, alike_test}
-use Rattle.model.specs.Refusal.{checked, values}
+use Rattle.model.specs.Refusal.{checked, values, flag}
 use Rattle.model.specs.Rules.{whole_rules, pair_rules}
 use Rattle.model.proofs.Tests.{true_of, false_of}
 use Rattle.model.proofs.Alike.{alike_sound, alike_complete}
-use Rattle.model.proofs.Groups.{values_refused, tell_fine, told_fine, group_fine, groups_fine}
+use Rattle.model.proofs.Groups.{tell_fine, told_fine, group_fine, groups_fine, told_apart, flag_one}
 use Rattle.model.proofs.Rules.{pair_fine, pair_pass, whole_pass}
-use Rattle.alike.specs.declared.Compared.{Compared}
-use Rattle.alike.specs.declared.Compared.TheVariants.{Yes, No, Refused}
 use Rattle.alike.specs.Compare.{alike_rules, alike_told, compared_told}
 use Rattle.claims.specs.Alike.{AlikeAnswers, AlikeServes, AlikeUnique}
-use Rattle.claims.proofs.Ask.{one_nought}
-
--- what is told determines the answer
-told_apart : (r q : Compared) → compared_told r ≡ compared_told q → r ≡ q
-told_apart Yes Yes e = refl
-told_apart Yes No e = absurd (one_nought e)
-told_apart Yes (Refused s) e = absurd (values_refused (1 ∷ []) s e)
-told_apart No Yes e = absurd (one_nought (sym e))
-told_apart No No e = refl
-told_apart No (Refused s) e = absurd (values_refused (0 ∷ []) s e)
-told_apart (Refused r) Yes e = absurd (values_refused (1 ∷ []) r (sym e))
-told_apart (Refused r) No e = absurd (values_refused (0 ∷ []) r (sym e))
-told_apart (Refused r) (Refused s) e = let q : r ≡ s = cc in ap Refused q
 
 pub alike_unique : AlikeUnique
-alike_unique n k u v m r q e f = told_apart r q (e ∙ sym f)
+alike_unique n k u v m r q e f = told_apart flag flag_one r q (e ∙ sym f)
 
 module _ (n k u v : ℕ) (m : List ℕ) where
   abbrev fine : Type 0
-  fine = checked (alike_rules n k u v m) ≡ Fine
+  fine = checked (alike_rules n k u v m) ≡ Ok tt
 
   abbrev test : Bool
   test = alike_test n k (cell k n m) u v
@@ -73,12 +58,12 @@ pub alike_answers : AlikeAnswers
 alike_answers n k u v m r p = (
   (
     λ e. let w = shown n k u v m 1 (sym (ap compared_told e) ∙ p) in (w.0, sound n k u v m w.0 (one (test n k u v m) w.1)),
-    λ w. told_apart r Yes (p ∙ says n k u v m w.0 true (true_of (test n k u v m) (complete n k u v m w.0 w.1))),
+    λ w. told_apart flag flag_one r (Ok true) (p ∙ says n k u v m w.0 true (true_of (test n k u v m) (complete n k u v m w.0 w.1))),
   ),
   (
     λ e. let w = shown n k u v m 0 (sym (ap compared_told e) ∙ p) in
         (w.0, λ s. nought (test n k u v m) w.1 (complete n k u v m w.0 s)),
-    λ w. told_apart r No (p ∙ says n k u v m w.0 false (false_of (test n k u v m) (λ t. w.1 (sound n k u v m w.0 t)))),
+    λ w. told_apart flag flag_one r (Ok false) (p ∙ says n k u v m w.0 false (false_of (test n k u v m) (λ t. w.1 (sound n k u v m w.0 t)))),
   ),
 )
 

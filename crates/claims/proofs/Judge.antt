@@ -9,7 +9,7 @@ use native.Mathlib.Omega.{arith}
 use borrow.Author.Tests.{lt-ltb, le-ltb, ltb-true, ltb-false}
 use lib.Dec.{T, ltb}
 use lib.ListN.{get_or}
-use Rattle.model.specs.declared.Checked.TheVariants.{Fine}
+use Rattle.std.specs.Prelude.{Ok}
 use Rattle.model.specs.Matrix.{cell_at, cell}
 use Rattle.model.specs.Policy.{Policy, domain_of, answer, Enforces}
 use Rattle.model.specs.Clash.{clash_test, first_clash}
@@ -18,28 +18,22 @@ use Rattle.model.specs.Rules.{size_rules, matrix_rules, assignment_rules, table_
 use Rattle.model.proofs.Below.{first_is, first_le, first_found, first_before}
 use Rattle.model.proofs.Places.{cell_inside, place}
 use Rattle.model.proofs.Clashes.{clash_grant, clash_deny, clash_shows, clash_at, clash_cell, agrees_iff}
-use Rattle.model.proofs.Groups.{values_refused, tell_fine, told_fine, group_fine}
+use Rattle.model.proofs.Groups.{told_apart, tell_fine, told_fine, group_fine}
 use Rattle.model.proofs.Rules.{sizes_pass, matrix_pass, assignment_pass, table_pass}
 use Rattle.conflicts.specs.Conflict.{conflict}
-use Rattle.judge.specs.declared.Judged.{Judged}
-use Rattle.judge.specs.declared.Judged.TheVariants as judged
-use Rattle.judge.specs.Judge.{judge_rules, verdict, judge_told, judged_told, Judges}
+use Rattle.judge.specs.declared.Verdict.{Verdict}
+use Rattle.judge.specs.declared.Verdict.TheVariants as judged
+use Rattle.judge.specs.Judge.{judge_rules, verdict, judge_told, verdict_values, judged_told, Judges}
 use Rattle.claims.specs.Judge.{Contradicts, FirstConflict, JudgeAccepts, JudgeConflicts, JudgeServes, JudgeUnique}
 
--- what is told determines the answer
-told_apart : (r q : Judged) → judged_told r ≡ judged_told q → r ≡ q
-told_apart (judged.Enforces d) (judged.Enforces b) e = let q : d ≡ b = cc in ap judged.Enforces q
-told_apart (judged.Enforces d) (judged.Conflict i x) e = let z : ◌≡◌ {A = ℕ} 0 1 = cc in absurd (omega arith)
-told_apart (judged.Enforces d) (judged.Refused s) e = absurd (values_refused _ s e)
-told_apart (judged.Conflict i x) (judged.Enforces b) e = let z : ◌≡◌ {A = ℕ} 0 1 = cc in absurd (omega arith)
-told_apart (judged.Conflict i x) (judged.Conflict j y) e = let p : i ≡ j = cc in let q : x ≡ y = cc in λ t. judged.Conflict (p t) (q t)
-told_apart (judged.Conflict i x) (judged.Refused s) e = absurd (values_refused _ s e)
-told_apart (judged.Refused r) (judged.Enforces b) e = absurd (values_refused _ r (sym e))
-told_apart (judged.Refused r) (judged.Conflict i x) e = absurd (values_refused _ r (sym e))
-told_apart (judged.Refused r) (judged.Refused s) e = let q : r ≡ s = cc in ap judged.Refused q
+verdict_one : (v w : Verdict) → verdict_values v ≡ verdict_values w → v ≡ w
+verdict_one (judged.Enforces d) (judged.Enforces b) e = let q : d ≡ b = cc in ap judged.Enforces q
+verdict_one (judged.Enforces d) (judged.Conflict i x) e = let z : ◌≡◌ {A = ℕ} 0 1 = cc in absurd (omega arith)
+verdict_one (judged.Conflict i x) (judged.Enforces b) e = let z : ◌≡◌ {A = ℕ} 0 1 = cc in absurd (omega arith)
+verdict_one (judged.Conflict i x) (judged.Conflict j y) e = let p : i ≡ j = cc in let q : x ≡ y = cc in λ t. judged.Conflict (p t) (q t)
 
 pub judge_unique : JudgeUnique
-judge_unique n k m P r q e f = told_apart r q (e ∙ sym f)
+judge_unique n k m P r q e f = told_apart verdict_values verdict_one r q (e ∙ sym f)
 
 module _ (n k : ℕ) (m : List ℕ) (P : Policy) where
   abbrev i : ℕ
@@ -128,7 +122,7 @@ module _ (n k : ℕ) (m : List ℕ) (P : Policy) where
       let o : get_or m i 0 ≡ x = cc in
       subst (λ (y : ℕ). FirstConflict n k (cell k n m) P y x) p (subst (λ (y : ℕ). FirstConflict n k (cell k n m) P i y) o (is_first h))
 
-  shown : (vs : List ℕ) → values vs ≡ judge_told n k m P → (checked (judge_rules n k m P) ≡ Fine) × (vs ≡ verdict n k m P)
+  shown : (vs : List ℕ) → values vs ≡ judge_told n k m P → (checked (judge_rules n k m P) ≡ Ok tt) × (vs ≡ verdict n k m P)
   unfolding judge_told
   shown vs e = told_fine (checked (judge_rules n k m P)) vs (verdict n k m P) e
 
@@ -137,7 +131,7 @@ module _ (n k : ℕ) (m : List ℕ) (P : Policy) where
   says fine vs e = sym (tell_fine (checked (judge_rules n k m P)) fine (verdict n k m P)) ∙ ap values e
 
   -- an enforcing policy to which no refusal applies is accepted
-  pub enforcing : Unrefused (judge_rules n k m P) → Enforces n k (cell k n m) P → (d : ℕ) → d ≡ P.domains → Judges n k m P (judged.Enforces d)
+  pub enforcing : Unrefused (judge_rules n k m P) → Enforces n k (cell k n m) P → (d : ℕ) → d ≡ P.domains → Judges n k m P (Ok (judged.Enforces d))
   enforcing fine E d e = sym (says fine (0 ∷ d ∷ []) (enforced (enforces_none E) ∙ ap (λ (x : ℕ). 0 ∷ x ∷ []) (sym e)))
 
 pub judge_accepts : JudgeAccepts
@@ -146,7 +140,7 @@ judge_accepts n k m P r j d = (
       let (fine, v) = shown n k m P (0 ∷ d ∷ []) (sym (ap judged_told e) ∙ j) in
       let (E, q) = accepts n k m P d v (cases n k m P) in
       (fine, E, q),
-  λ w. told_apart r (judged.Enforces d) (j ∙ sym (enforcing n k m P w.0 w.1 d w.2)),
+  λ w. told_apart verdict_values verdict_one r (Ok (judged.Enforces d)) (j ∙ sym (enforcing n k m P w.0 w.1 d w.2)),
 )
 
 pub judge_conflicts : JudgeConflicts
@@ -156,7 +150,7 @@ judge_conflicts n k m P r j i x = (
       (fine, conflicts n k m P i x v (cases n k m P)),
   λ w.
       let (p, q, l) = first_is_it n k m P i x w.1 in
-      told_apart r (judged.Conflict i x) (j ∙ says n k m P w.0 (1 ∷ i ∷ x ∷ [])
+      told_apart verdict_values verdict_one r (Ok (judged.Conflict i x)) (j ∙ says n k m P w.0 (1 ∷ i ∷ x ∷ [])
       (clashed n k m P l ∙ λ t. 1 ∷ sym p t ∷ (ap (λ (y : ℕ). get_or m y 0) (sym p) ∙ sym q) t ∷ [])),
 )
 

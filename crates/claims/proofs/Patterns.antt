@@ -4,6 +4,7 @@ use mathlib.Core.Path.{◌≡◌, refl, subst}
 use mathlib.Core.List.{[], ◌∷◌}
 use Prim.Native.Nat.{ℕ, ◌≤◌}
 use native.Mathlib.Omega.{arith}
+use Rattle.std.specs.Prelude.{Ok}
 use Rattle.model.specs.Below.{all, any, count, first, tab}
 use Rattle.model.specs.Matrix.{cell}
 use Rattle.model.specs.Alike.{rows_test, alike_test}
@@ -15,7 +16,7 @@ use Rattle.model.specs.Refusal.{refusal, cell_refusal}
 use Rattle.model.specs.Rules.{lowest, lowest_rule, size_rules, matrix_rules, full_rules, whole_rules, assignment_rules, table_rules, room_rules}
 use Rattle.build.specs.Build.{build_rules, build_told}
 use Rattle.conflicts.specs.Conflict.{conflict}
-use Rattle.judge.specs.declared.Judged.TheVariants.{Enforces}
+use Rattle.judge.specs.declared.Verdict.TheVariants.{Enforces}
 use Rattle.judge.specs.Judge.{judge_rules, verdict, judge_told, Judges}
 use Rattle.judge.proofs.Exits.{judgeable}
 use Rattle.claims.specs.Patterns.{gaps, patterns, PatternsMet, PatternsPrinted, GapsMerged}
@@ -65,10 +66,10 @@ patterns_printed = refl
 -- ---- gaps
 
 -- what the judge accepts puts together what shares a domain in it
-joins : (limit : ℕ) (P : Policy) (u v : ℕ) → P.domains ≤ limit → Judges 3 1 gaps P (Enforces P.domains) → domain_of P u ≡ domain_of P v
+joins : (limit : ℕ) (P : Policy) (u v : ℕ) → P.domains ≤ limit → Judges 3 1 gaps P (Ok (Enforces P.domains)) → domain_of P u ≡ domain_of P v
     → Together limit 3 1 (cell 1 3 gaps) u v
 joins limit P u v few j s =
-    let a = (judge_accepts 3 1 gaps P (Enforces P.domains) j P.domains).0 refl in
+    let a = (judge_accepts 3 1 gaps P (Ok (Enforces P.domains)) j P.domains).0 refl in
     record { policy = P; few = few; valid = (judgeable 3 1 gaps P a.0).1.valid; enforces = a.1; shared = s }
 
 apart : (limit : ℕ) → ¬ Together limit 3 1 (cell 1 3 gaps) 0 2

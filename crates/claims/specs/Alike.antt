@@ -1,17 +1,15 @@
 -- What is claimed of the alike call, over any answer r that meets its promise (01, "The calls"). Assumes nothing.
-use Rattle.std.specs.Prelude.{◌≡◌, ◌↔◌, List, ℕ, ◌<◌}
+use Rattle.std.specs.Prelude.{false, true, Ok, ◌≡◌, ◌↔◌, List, ℕ, ◌<◌}
 use Rattle.model.specs.Matrix.{cell, Holds}
 use Rattle.model.specs.Alike.{Alike}
 use Rattle.model.specs.Refusal.{Unrefused}
-use Rattle.alike.specs.declared.Compared.{Compared}
-use Rattle.alike.specs.declared.Compared.TheVariants.{Yes, No}
-use Rattle.alike.specs.Compare.{alike_rules, Compares}
+use Rattle.alike.specs.Compare.{Compared, alike_rules, Compares}
 
 -- yes exactly if Definition 2.11 holds, no exactly if it does not, where no refusal applies
 abbrev pub AlikeAnswers : Type 0
 AlikeAnswers = (n k u v : ℕ) (m : List ℕ) (r : Compared) → Compares n k u v m r
-    → ((r ≡ Yes) ↔ (Unrefused (alike_rules n k u v m) × Alike n k (cell k n m) u v))
-    × ((r ≡ No) ↔ (Unrefused (alike_rules n k u v m) × ¬ Alike n k (cell k n m) u v))
+    → ((r ≡ Ok true) ↔ (Unrefused (alike_rules n k u v m) × Alike n k (cell k n m) u v))
+    × ((r ≡ Ok false) ↔ (Unrefused (alike_rules n k u v m) × ¬ Alike n k (cell k n m) u v))
 
 -- and none does for two entities of a full matrix
 abbrev pub AlikeServes : Type 0

@@ -1,10 +1,8 @@
 -- What is claimed of the ask, over any answer r that meets its promise (01, "The calls"). Assumes nothing.
-use Rattle.std.specs.Prelude.{◌≡◌, ◌↔◌, ℕ, ◌<◌, length}
+use Rattle.std.specs.Prelude.{false, true, Ok, ◌≡◌, ◌↔◌, ℕ, ◌<◌, length}
 use Rattle.model.specs.Policy.{Policy, domain_of, Within, answer, Grants}
 use Rattle.model.specs.Refusal.{Unrefused}
-use Rattle.ask.specs.declared.Asked.{Asked}
-use Rattle.ask.specs.declared.Asked.TheVariants.{Grant, Deny}
-use Rattle.ask.specs.Ask.{ask_rules, Answers}
+use Rattle.ask.specs.Ask.{Asked, ask_rules, Answers}
 
 -- all that the answer to (u, a, v) depends on, beside n, k, u, a and v
 pub record Coincide (k u a v : ℕ) (P Q : Policy) : Type 0 where
@@ -18,8 +16,8 @@ pub record Coincide (k u a v : ℕ) (P Q : Policy) : Type 0 where
 -- demand 2: granted exactly if the policy grants, denied exactly if it does not, where no refusal applies
 abbrev pub AskGrants : Type 0
 AskGrants = (n k u a v : ℕ) (P : Policy) (r : Asked) → Answers n k u a v P r
-    → ((r ≡ Grant) ↔ (Unrefused (ask_rules n k u a v P) × Grants k P u a v))
-    × ((r ≡ Deny) ↔ (Unrefused (ask_rules n k u a v P) × ¬ Grants k P u a v))
+    → ((r ≡ Ok true) ↔ (Unrefused (ask_rules n k u a v P) × Grants k P u a v))
+    × ((r ≡ Ok false) ↔ (Unrefused (ask_rules n k u a v P) × ¬ Grants k P u a v))
 
 -- and none does for a request in range of a policy within the limits
 abbrev pub AskServes : Type 0

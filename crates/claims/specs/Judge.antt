@@ -1,11 +1,10 @@
 -- What is claimed of the judge, over any answer r that meets its promise (01, "The calls"). Assumes nothing.
-use Rattle.std.specs.Prelude.{◌≡◌, ◌↔◌, ◌⊎◌, List, ℕ, ◌<◌}
+use Rattle.std.specs.Prelude.{Ok, ◌≡◌, ◌↔◌, ◌⊎◌, List, ℕ, ◌<◌}
 use Rattle.model.specs.Matrix.{Cells, cell_at, cell, Holds}
 use Rattle.model.specs.Policy.{Policy, Within, Grants, Enforces}
 use Rattle.model.specs.Refusal.{Unrefused}
-use Rattle.judge.specs.declared.Judged.{Judged}
-use Rattle.judge.specs.declared.Judged.TheVariants as judged
-use Rattle.judge.specs.Judge.{judge_rules, Judges}
+use Rattle.judge.specs.declared.Verdict.TheVariants as judged
+use Rattle.judge.specs.Judge.{Judged, judge_rules, Judges}
 
 -- P contradicts what M logs at (u, a, v)
 abbrev pub Contradicts : ℕ → Cells → Policy → ℕ → ℕ → ℕ → Type 0
@@ -25,12 +24,12 @@ pub record FirstConflict (n k : ℕ) (M : Cells) (P : Policy) (i x : ℕ) : Type
 -- demand 2: accepted exactly if it enforces every logged cell; and then the number told is the policy's number of domains
 abbrev pub JudgeAccepts : Type 0
 JudgeAccepts = (n k : ℕ) (m : List ℕ) (P : Policy) (r : Judged) → Judges n k m P r
-    → (d : ℕ) → (r ≡ judged.Enforces d) ↔ (Unrefused (judge_rules n k m P) × Enforces n k (cell k n m) P × (d ≡ P.domains))
+    → (d : ℕ) → (r ≡ Ok (judged.Enforces d)) ↔ (Unrefused (judge_rules n k m P) × Enforces n k (cell k n m) P × (d ≡ P.domains))
 
 -- and otherwise the conflict told is the first, with what is logged there
 abbrev pub JudgeConflicts : Type 0
 JudgeConflicts = (n k : ℕ) (m : List ℕ) (P : Policy) (r : Judged) → Judges n k m P r
-    → (i x : ℕ) → (r ≡ judged.Conflict i x) ↔ (Unrefused (judge_rules n k m P) × FirstConflict n k (cell k n m) P i x)
+    → (i x : ℕ) → (r ≡ Ok (judged.Conflict i x)) ↔ (Unrefused (judge_rules n k m P) × FirstConflict n k (cell k n m) P i x)
 
 -- no refusal applies to a matrix, full or not, and a policy within the limits
 abbrev pub JudgeServes : Type 0

@@ -3,7 +3,7 @@
 use Rattle.std.specs.Prelude.{◌≡◌, List, [], ◌∷◌, ◌++◌, ℕ, ◌+◌, ◌*◌, ◌≤◌}
 use Rattle.model.specs.Matrix.{cell}
 use Rattle.model.specs.Policy.{Policy, policy, Together}
-use Rattle.model.specs.Refusal.{cell_refusal, values, refused}
+use Rattle.model.specs.Refusal.{values, refused}
 use Rattle.build.specs.Build.{built_from, build_told}
 use Rattle.judge.specs.Judge.{judge_told}
 
@@ -47,7 +47,7 @@ patterns =
 -- what the calls tell, over buffers of n and n·k·n bytes, and what they write. A refusal of the matrix comes before the rooms are looked at
 abbrev pub Meets : ℕ → ℕ → List ℕ → Expected → Type 0
 Meets n k m (builds P) = (build_told n k m n (n * k * n) ≡ values (P.domains ∷ [])) × (built_from n k m ≡ P)
-Meets n k m (refuses number i) = build_told n k m 0 0 ≡ refused (cell_refusal number k n i)
+Meets n k m (refuses number i) = build_told n k m 0 0 ≡ refused number i
 Meets n k m (enforces P d) = judge_told n k m P ≡ values (0 ∷ d ∷ [])
 Meets n k m (conflicts P i x) = judge_told n k m P ≡ values (1 ∷ i ∷ x ∷ [])
 

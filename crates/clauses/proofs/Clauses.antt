@@ -1,6 +1,6 @@
 -- The three tests on rows pass exactly if the clauses of Definition 2.11 hold, and so does `alike_test`. So it is their conjunction.
 -- Assumes nothing.
-use mathlib.Core.Path.{◌≡◌, subst}
+use mathlib.Core.Path.{◌≡◌, ◌∙◌, subst}
 use mathlib.Core.Bool.{Bool, true, false, ◌&&◌}
 use mathlib.Core.Logic.{◌≢◌}
 use mathlib.Core.List.{List}
@@ -12,7 +12,7 @@ use Rattle.model.specs.Matrix.{Cells, cell, row_of}
 use Rattle.model.specs.Alike.{Alike, alike_test}
 use Rattle.model.proofs.Tests.{and_left, and_right, and_both, same_test_lem, eqb_of}
 use Rattle.model.proofs.Below.{all_at, all_of}
-use Rattle.model.proofs.Rows.{row_at}
+use Rattle.model.proofs.Rows.{passed, rows_told, row_at}
 use Rattle.model.proofs.Alike.{alike_sound, alike_complete}
 use Rattle.clauses.specs.Clauses.{four_test, own_test, own_all_test, but_test, sends_test, sends_all_test, same_test, treats_test, treats_all_test}
 use Rattle.clauses.proofs.Exits.{four_passes, but_first, but_second, but_other}
@@ -104,13 +104,21 @@ module _ (n k : ℕ) (m : List ℕ) (u v : ℕ) (hu : u < n) (hv : v < n) where
       (λ p. let q = and_right o (s && t) p in alike_complete n k M u v hu hv (holds (and_left o (s && t) p) (and_left s t q) (and_right s t q)))
       (λ p. let A = alike_sound n k M u v hu hv p in and_both o (s && t) (own_passes A) (and_both s t (sends_passes A) (treats_passes A)))
 
-  -- ---- the exits
+  -- ---- what the calls tell, where p and q tell of the parts of the matrix that are passed
 
-  pub own_differ : o ≡ false → false ≡ alike_test n k M u v
-  own_differ e = rw e at joined
+  module _ (p : Bool) (e : p ≡ own_all_test n k (passed n k m u) (passed n k m v) u v) where
+    own_told : o ≡ p
+    own_told = rows_told n k m u v (λ r s. own_all_test n k r s u v) p e
 
-  pub sends_differ : o ≡ true → s ≡ false → false ≡ alike_test n k M u v
-  sends_differ e f = rw (e, f) at joined
+    pub own_fails : p ≡ false → false ≡ alike_test n k M u v
+    own_fails g = rw (own_told ∙ g) at joined
 
-  pub treats_decide : o ≡ true → s ≡ true → t ≡ alike_test n k M u v
-  treats_decide e f = rw (e, f) at joined
+    module _ (q : Bool) (f : q ≡ sends_all_test n k (passed n k m u) (passed n k m v) u v) (g : p ≡ true) where
+      sends_told : s ≡ q
+      sends_told = rows_told n k m u v (λ r s. sends_all_test n k r s u v) q f
+
+      pub sends_fails : q ≡ false → false ≡ alike_test n k M u v
+      sends_fails h = rw (own_told ∙ g, sends_told ∙ h) at joined
+
+      pub treats_decides : q ≡ true → t ≡ alike_test n k M u v
+      treats_decides h = rw (own_told ∙ g, sends_told ∙ h) at joined

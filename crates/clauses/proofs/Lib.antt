@@ -1,3 +1,3 @@
-pub mod Rows
+pub mod Ranges
 pub mod Exits
 pub mod Clauses

@@ -2,29 +2,24 @@
 
 #![tactic(auto)]
 
-ghost use Rattle.std.specs.Prelude.{◌≡◌, ◌*◌, ◌≤◌, ◌<◌, eqb, length};
-ghost use Rattle.model.specs.Matrix.{cell, Laid};
-ghost use Rattle.model.specs.Alike.{alike_test};
-ghost use Rattle.clauses.specs.Clauses.{own_all_test, but_test, sends_all_test, treats_test, treats_all_test};
+ghost use Rattle.std.specs.Prelude.{◌≡◌, ◌+◌, ◌*◌, ◌≤◌, ◌<◌, length};
+ghost use Rattle.model.specs.Below.{all};
+ghost use Rattle.model.specs.Laid.{alike};
+ghost use Rattle.clauses.specs.Clauses.{own_all_test, sends_test, sends_all_test, treats_test, treats_all_test};
+
+use model::Matrix;
 
 // The test itself: the pair's own four cells, then the others'. The rows of u and v are compared where they stand.
-pub fn same(n: usize, k: usize, u: usize, v: usize, m: &[u8]) -> bool
-    requires laid { Laid n k m.now }
-    requires pair_in_range { (u < n) × (v < n) }
-    ensures { result ≡ alike_test n k (cell k n m.now) u v }
+pub fn same(m: &Matrix, u: usize, v: usize) -> bool
+    requires { (u < m.now.n) × (v < m.now.n) }
+    ensures { result ≡ alike m.now u v }
 {
-    let row = k * n;
+    let row = m.k * m.n;
     let i = u * row;
     let j = v * row;
-    let r = &m[i..i + row];
-    let s = &m[j..j + row];
-    if !own_same(n, k, u, v, r, s) {
-        return false;
-    }
-    if !sends_same(n, k, u, v, r, s) {
-        return false;
-    }
-    receives_same(n, k, u, v, m)
+    let r = &m.cells[i..i + row];
+    let s = &m.cells[j..j + row];
+    own_same(m.n, m.k, u, v, r, s) && sends_same(m.n, m.k, u, v, r, s) && receives_same(m, u, v)
 }
 
 // Clause 1: the pair's own four cells, in the rows of u and v.
@@ -33,22 +28,11 @@ fn own_same(n: usize, k: usize, u: usize, v: usize, r: &[u8], s: &[u8]) -> bool
     requires row_lengths { (length r.now ≡ k * n) × (length s.now ≡ k * n) }
     ensures { result ≡ own_all_test n k r.now s.now u v }
 {
-    let mut a = 0;
-    while a < k {
+    (0..k).all(|a| {
         let i = a * n + u;
         let j = a * n + v;
-        if r[i] != r[j] {
-            return false;
-        }
-        if r[j] != s[i] {
-            return false;
-        }
-        if s[i] != s[j] {
-            return false;
-        }
-        a += 1;
-    }
-    true
+        r[i] == r[j] && r[j] == s[i] && s[i] == s[j]
+    })
 }
 
 // Clause 2, sending: the rows of u and v, with u and v passed over.
@@ -56,49 +40,27 @@ fn sends_same(n: usize, k: usize, u: usize, v: usize, r: &[u8], s: &[u8]) -> boo
     requires { (n ≤ 64) × (k ≤ 8) × (length r.now ≡ k * n) × (length s.now ≡ k * n) }
     ensures { result ≡ sends_all_test n k r.now s.now u v }
 {
-    let mut a = 0;
-    while a < k {
-        let mut x = 0;
-        while x < n {
-            if !same_but(u, v, x, r[a * n + x], s[a * n + x]) {
-                return false;
-            }
-            x += 1;
-        }
-        a += 1;
-    }
-    true
+    (0..k).all(|a| line_same(n, u, v, a, r, s))
 }
 
-// Whether p is q, or x one of the two.
-fn same_but(u: usize, v: usize, x: usize, p: u8, q: u8) -> bool
-    ensures { result ≡ but_test u v x (eqb p q) }
+// For right a: the cells for each receiver but u and v.
+fn line_same(n: usize, u: usize, v: usize, a: usize, r: &[u8], s: &[u8]) -> bool
+    requires { (n ≤ 64) × (a < 8) × (a * n + n ≤ length r.now) × (a * n + n ≤ length s.now) }
+    ensures { result ≡ all n (sends_test n r.now s.now u v a) }
 {
-    if x == u {
-        return true;
-    }
-    if x == v {
-        return true;
-    }
-    p == q
+    (0..n).all(|x| x == u || x == v || r[a * n + x] == s[a * n + x])
 }
 
 // Clause 2, receiving: every sender's row, where it stands.
-fn receives_same(n: usize, k: usize, u: usize, v: usize, m: &[u8]) -> bool
-    requires laid { Laid n k m.now }
-    requires pair_in_range { (u < n) × (v < n) }
-    ensures { result ≡ treats_all_test n k m.now u v }
+fn receives_same(m: &Matrix, u: usize, v: usize) -> bool
+    requires { (u < m.now.n) × (v < m.now.n) }
+    ensures { result ≡ treats_all_test m.now.n m.now.k m.now.cells.now u v }
 {
-    let row = k * n;
-    let mut x = 0;
-    while x < n {
+    let row = m.k * m.n;
+    (0..m.n).all(|x| {
         let i = x * row;
-        if !treats_same(n, k, u, v, x, &m[i..i + row]) {
-            return false;
-        }
-        x += 1;
-    }
-    true
+        treats_same(m.n, m.k, u, v, x, &m.cells[i..i + row])
+    })
 }
 
 // Whether the sender x of row t is one of the two, or treats them the same.
@@ -106,18 +68,5 @@ fn treats_same(n: usize, k: usize, u: usize, v: usize, x: usize, t: &[u8]) -> bo
     requires { (n ≤ 64) × (k ≤ 8) × (u < n) × (v < n) × (length t.now ≡ k * n) }
     ensures { result ≡ treats_test n k t.now u v x }
 {
-    if x == u {
-        return true;
-    }
-    if x == v {
-        return true;
-    }
-    let mut a = 0;
-    while a < k {
-        if t[a * n + u] != t[a * n + v] {
-            return false;
-        }
-        a += 1;
-    }
-    true
+    x == u || x == v || (0..k).all(|a| t[a * n + u] == t[a * n + v])
 }

@@ -37,11 +37,11 @@ module _ {n k : ℕ} {m : List ℕ} {P : Policy} {u a v i : ℕ} (c : Clear n k 
   pub next_sender : v ≡ 0 → a ≡ k → Clear n k m P (u + 1) 0 0 i
   next_sender z e = record { place = c.place ∙ rw (z, e) (omega arith); none = c.none }
 
-  pub end : v ≡ 0 → a ≡ 0 → u ≡ n → i ≡ conflict n k m P
+  pub end : v ≡ 0 → a ≡ 0 → u ≡ n → n * k * n ≡ conflict n k m P
   unfolding conflict first_clash
   end z o e =
       let q : i ≡ n * k * n = c.place ∙ rw (z, o, e) (omega arith) in
-      sym (ap (λ (j : ℕ). first j (clashes n k m P)) (sym q) ∙ c.none)
+      sym (ap (λ (j : ℕ). first j (clashes n k m P)) (sym q) ∙ c.none ∙ q)
 
   -- at a cell of the matrix
   module _ (h : u < n) (b : a < k) (l : v < n) where

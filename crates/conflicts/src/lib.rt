@@ -2,45 +2,36 @@
 
 #![tactic(auto)]
 
-ghost use Rattle.std.specs.Prelude.{◌≡◌, ◌<◌};
-ghost use Rattle.model.specs.Matrix.{Laid};
+ghost use Rattle.std.specs.Prelude.{◌≡◌, ◌*◌, ◌<◌, length, unwrap_or, IfSome};
 ghost use Rattle.model.specs.Policy.{policy, Within};
 ghost use Rattle.model.specs.Clash.{clash_test};
 ghost use Rattle.conflicts.specs.Conflict.{conflict};
 
-// The first cell, in cell order, whose logged value the policy contradicts, or the number of cells. The first one ends the scan.
-pub fn first_conflict(
-    n: usize,
-    k: usize,
-    d: usize,
-    matrix: &[u8],
-    assignment: &[u8],
-    table: &[u8],
-) -> usize
-    requires laid { Laid n k matrix.now }
-    requires within { Within n k (policy d assignment.now table.now) }
-    ensures { result ≡ conflict n k matrix.now (policy d assignment.now table.now) }
+use model::Matrix;
+
+// The first cell, in cell order, whose logged value the policy contradicts, or none. The first one ends the scan.
+pub fn first_conflict(m: &Matrix, d: usize, assignment: &[u8], table: &[u8]) -> Option<usize>
+    requires { Within m.now.n m.now.k (policy d assignment.now table.now) }
+    ensures first { unwrap_or result (m.now.n * m.now.k * m.now.n)
+        ≡ conflict m.now.n m.now.k m.now.cells.now (policy d assignment.now table.now) }
+    ensures inside { IfSome result (λ i. i < length m.now.cells.now) }
 {
+    let mut found = None;
     let mut cell = 0;
-    let mut u = 0;
-    'cells: while u < n {
+    'cells: for u in 0..m.n {
         let p = assignment[u] as usize;
-        let mut a = 0;
-        while a < k {
-            let row = (p * k + a) * d;
-            let mut v = 0;
-            while v < n {
-                if contradicts(matrix[cell], table[row + assignment[v] as usize]) {
+        for a in 0..m.k {
+            let row = (p * m.k + a) * d;
+            for v in 0..m.n {
+                if contradicts(m.cells[cell], table[row + assignment[v] as usize]) {
+                    found = Some(cell);
                     break 'cells;
                 }
                 cell += 1;
-                v += 1;
             }
-            a += 1;
         }
-        u += 1;
     }
-    cell
+    found
 }
 
 // Whether the policy's answer, 0 or 1, contradicts what is logged: a logged 0 or 1 that is not the answer differs from it by 1 bit for

@@ -7,11 +7,11 @@ use Prim.Native.Nat.{ℕ, ◌*◌, ◌≤◌}
 use native.Mathlib.Omega.{arith}
 use lib.ListN.{length, take, drop}
 use lib.Seq.{take_at, drop_at}
+use Rattle.model.specs.declared.Fault.TheVariants.{AssignmentRoom, Room, FileForm}
 use Rattle.model.specs.declared.Refusal.{Refusal}
-use Rattle.model.specs.declared.Checked.{Checked}
-use Rattle.model.specs.declared.Checked.TheVariants.{Fine}
+use Rattle.model.specs.Refusal.{Checked, refusal, Told, told_refusal, tell, held, over}
+use Rattle.std.specs.Prelude.{Ok, Err}
 use Rattle.model.specs.Policy.{Policy, policy, written}
-use Rattle.model.specs.Refusal.{refusal, Told, refused, tell, held, over}
 use Rattle.model.specs.Rules.{room_rules}
 use Rattle.model.proofs.Groups.{values_refused, tell_fine, told_fine, told_bad, held_fine, held_bad, group_fine}
 use Rattle.model.proofs.Rules.{room_pass}
@@ -21,31 +21,11 @@ use Rattle.layout.proofs.Places.{place_one}
 use Rattle.layout.proofs.Files.{matrix_malformed, policy_malformed}
 use Rattle.layout.proofs.Contents.{matrix_one, policy_one}
 use Rattle.layout.proofs.Cuts.{matrix_whole, policy_whole, cut as cut_short, behind as bytes-behind}
-use Rattle.files.specs.declared.ReadMatrix.{ReadMatrix}
-use Rattle.files.specs.declared.ReadMatrix.TheVariants.{Matrix, Refused as MatrixRefused}
-use Rattle.files.specs.declared.ReadPolicy.{ReadPolicy}
-use Rattle.files.specs.declared.ReadPolicy.TheVariants.{Policy as APolicy, Refused as PolicyRefused}
-use Rattle.files.specs.Read.{read_matrix_told, read_policy_told, matrix_room, policy_room, MatrixRead, PolicyRead, formed, malformed}
+use Rattle.files.specs.Read.{of_matrix, of_policy, read_matrix_told, read_policy_told, matrix_room, policy_room}
+use Rattle.files.specs.Read.{MatrixRead, PolicyRead, formed, malformed}
+use Rattle.files.proofs.Told.{matrix_apart, policy_apart}
 use Rattle.filed.specs.Files.{ReadsMatrix, ReadsPolicy, MatrixFilled, PolicyFilled, ReadKeeps, ReadServes, Placed, Cut, Behind, Examples}
 use Rattle.filed.specs.Files.{ReadMatrixUnique, ReadPolicyUnique}
-
--- ---- what is told determines the answer
-
-matrix_apart : (r q : ReadMatrix) → read_matrix_told r ≡ read_matrix_told q → r ≡ q
-matrix_apart (Matrix n k) (Matrix a b) e = let p : n ≡ a = cc in let o : k ≡ b = cc in λ i. Matrix (p i) (o i)
-matrix_apart (Matrix n k) (MatrixRefused s) e = absurd (values_refused _ s e)
-matrix_apart (MatrixRefused r) (Matrix a b) e = absurd (values_refused _ r (sym e))
-matrix_apart (MatrixRefused r) (MatrixRefused s) e = let q : r ≡ s = cc in ap MatrixRefused q
-
-policy_apart : (r q : ReadPolicy) → read_policy_told r ≡ read_policy_told q → r ≡ q
-policy_apart (APolicy n k d) (APolicy a b c) e =
-    let p : n ≡ a = cc in
-    let o : k ≡ b = cc in
-    let w : d ≡ c = cc in
-    λ i. APolicy (p i) (o i) (w i)
-policy_apart (APolicy n k d) (PolicyRefused s) e = absurd (values_refused _ s e)
-policy_apart (PolicyRefused r) (APolicy a b c) e = absurd (values_refused _ r (sym e))
-policy_apart (PolicyRefused r) (PolicyRefused s) e = let q : r ≡ s = cc in ap PolicyRefused q
 
 -- ---- a buffer whose first bytes are new
 
@@ -57,11 +37,11 @@ module _ (new x x' : List ℕ) (size : ℕ) (long : length new ≡ size) (e : x'
   later_bytes = ap (drop size) e ∙ drop_at new (drop (length new) x) size long ∙ ap (λ (z : ℕ). drop z x) long
 
 -- so it is where no rule applies
-pub held_over : (c : Checked) (new x x' : List ℕ) → c ≡ Fine → x' ≡ held c new x → x' ≡ over new x
+pub held_over : (c : Checked) (new x x' : List ℕ) → c ≡ Ok tt → x' ≡ held c new x → x' ≡ over new x
 held_over c new x x' fine e = e ∙ sym (held_fine c fine new x (length new) refl)
 
 -- and where one does it is the old
-pub held_old : (c : Checked) (r : Refusal) (ws new x x' : List ℕ) → refused r ≡ tell c ws → x' ≡ held c new x → x' ≡ x
+pub held_old : (c : Checked) (r : Refusal) (ws new x x' : List ℕ) → told_refusal r ≡ tell c ws → x' ≡ held c new x → x' ≡ x
 held_old c r ws new x x' t e = e ∙ sym (held_bad c r (told_bad c r ws t) new x)
 
 -- ---- what the promises say of one file
@@ -74,9 +54,9 @@ module _ (s x x' : List ℕ) (t : Told) where
       (e ∙ (λ i. tell (matrix_room (w i) x) (p i ∷ o i ∷ [])), q ∙ (λ i. held (matrix_room (w i) x) (w i) x))
   matrix_told n k m f (malformed p w e q) = absurd (w.not (n, k, m, f))
 
-  matrix_placed : (p : ℕ) → Malformed MatrixFormed s p → MatrixRead s x t x' → (t ≡ refused (refusal 12 p)) × (x' ≡ x)
+  matrix_placed : (p : ℕ) → Malformed MatrixFormed s p → MatrixRead s x t x' → (t ≡ told_refusal (refusal FileForm p)) × (x' ≡ x)
   matrix_placed p w (formed a b l g e q) = absurd (w.not (a, b, l, g))
-  matrix_placed p w (malformed o z e q) = (e ∙ ap (λ (i : ℕ). refused (refusal 12 i)) (place_one z.place w.place), q)
+  matrix_placed p w (malformed o z e q) = (e ∙ ap (λ (i : ℕ). told_refusal (refusal FileForm i)) (place_one z.place w.place), q)
 
 module _ (s x y x' y' : List ℕ) (t : Told) where
   policy_told : (n k : ℕ) (P : Policy) → PolicyFile n k P s → PolicyRead s x y t x' y'
@@ -90,14 +70,14 @@ module _ (s x y x' y' : List ℕ) (t : Told) where
       )
   policy_told n k P f (malformed p w e q z) = absurd (w.not (n, k, P, f))
 
-  policy_placed : (p : ℕ) → Malformed PolicyFormed s p → PolicyRead s x y t x' y' → (t ≡ refused (refusal 12 p)) × (x' ≡ x) × (y' ≡ y)
+  policy_placed : (p : ℕ) → Malformed PolicyFormed s p → PolicyRead s x y t x' y' → (t ≡ told_refusal (refusal FileForm p)) × (x' ≡ x) × (y' ≡ y)
   policy_placed p w (formed a b Q g e q z) = absurd (w.not (a, b, Q, g))
-  policy_placed p w (malformed o v e q z) = (e ∙ ap (λ (i : ℕ). refused (refusal 12 i)) (place_one v.place w.place), q, z)
+  policy_placed p w (malformed o v e q z) = (e ∙ ap (λ (i : ℕ). told_refusal (refusal FileForm i)) (place_one v.place w.place), q, z)
 
 -- ---- reading
 
 pub matrix_filled : MatrixFilled
-matrix_filled n k s x x' (malformed p w t q) = absurd (values_refused _ (refusal 12 p) t)
+matrix_filled n k s x x' (malformed p w t q) = absurd (values_refused _ _ _ t)
 matrix_filled n k s x x' (formed a b m f t q) =
     let (fine, e) = told_fine (matrix_room m x) (n ∷ k ∷ []) (a ∷ b ∷ []) t in
     let p : a ≡ n = cc in
@@ -108,7 +88,7 @@ matrix_filled n k s x x' (formed a b m f t q) =
     (transport (λ i. MatrixFile (p i) (o i) (sym same i) s) f, later_bytes m x x' (n * k * n) size left)
 
 pub policy_filled : PolicyFilled
-policy_filled n k d s x y x' y' (malformed p w t q z) = absurd (values_refused _ (refusal 12 p) t)
+policy_filled n k d s x y x' y' (malformed p w t q z) = absurd (values_refused _ _ _ t)
 policy_filled n k d s x y x' y' (formed a b P f t q z) =
     let (fine, e) = told_fine (policy_room P x y) (n ∷ k ∷ d ∷ []) (a ∷ b ∷ P.domains ∷ []) t in
     let p : a ≡ n = cc in
@@ -128,35 +108,35 @@ policy_filled n k d s x y x' y' (formed a b P f t q z) =
 pub read_keeps : ReadKeeps
 read_keeps r s x y x' y' = (matrix, names)
   where
-    matrix : ReadsMatrix s x (MatrixRefused r) x' → x' ≡ x
+    matrix : ReadsMatrix s x (Err r) x' → x' ≡ x
     matrix (formed n k m f t q) = held_old (matrix_room m x) r (n ∷ k ∷ []) m x x' t q
     matrix (malformed p w t q) = q
 
-    names : ReadsPolicy s x y (PolicyRefused r) x' y' → (x' ≡ x) × (y' ≡ y)
+    names : ReadsPolicy s x y (Err r) x' y' → (x' ≡ x) × (y' ≡ y)
     names (formed n k P f t q z) =
         let c = policy_room P x y in
         let ws : List ℕ = n ∷ k ∷ P.domains ∷ [] in
         (held_old c r ws P.assignment x x' t q, held_old c r ws P.table y y' t z)
     names (malformed p w t q z) = (q, z)
 
-policy_roomy : (P : Policy) (x y : List ℕ) → length P.assignment ≤ length x → length P.table ≤ length y → policy_room P x y ≡ Fine
+policy_roomy : (P : Policy) (x y : List ℕ) → length P.assignment ≤ length x → length P.table ≤ length y → policy_room P x y ≡ Ok tt
 policy_roomy P x y h l =
-    group_fine (room_rules 10 (length x) (length P.assignment)) (room_rules 11 (length y) (length P.table))
-    (room_pass 10 (length x) (length P.assignment) h)
-    ∙ room_pass 11 (length y) (length P.table) l
+    group_fine (room_rules AssignmentRoom (length x) (length P.assignment)) (room_rules Room (length y) (length P.table))
+    (room_pass AssignmentRoom (length x) (length P.assignment) h)
+    ∙ room_pass Room (length y) (length P.table) l
 
 pub read_serves : ReadServes
 read_serves n k s x y x' y' = (
-  λ m r f h e. matrix_apart r (Matrix n k)
-      ((matrix_told s x x' (read_matrix_told r) n k m f e).0 ∙ sym (tell_fine (matrix_room m x) (room_pass 11 (length x) (length m) h) (n ∷ k ∷ []))),
-  λ P r f h l e. policy_apart r (APolicy n k P.domains)
+  λ m r f h e. matrix_apart r (Ok (of_matrix n k))
+      ((matrix_told s x x' (read_matrix_told r) n k m f e).0 ∙ sym (tell_fine (matrix_room m x) (room_pass Room (length x) (length m) h) (n ∷ k ∷ []))),
+  λ P r f h l e. policy_apart r (Ok (of_policy n k P.domains))
       ((policy_told s x y x' y' (read_policy_told r) n k P f e).0 ∙ sym (tell_fine (policy_room P x y) (policy_roomy P x y h l) (n ∷ k ∷ P.domains ∷ []))),
 )
 
 pub placed : Placed
 placed s x y x' y' p = (
-  λ w r e. matrix_apart r (MatrixRefused (refusal 12 p)) (matrix_placed s x x' (read_matrix_told r) p w e).0,
-  λ w r e. policy_apart r (PolicyRefused (refusal 12 p)) (policy_placed s x y x' y' (read_policy_told r) p w e).0,
+  λ w r e. matrix_apart r (Err (refusal FileForm p)) (matrix_placed s x x' (read_matrix_told r) p w e).0,
+  λ w r e. policy_apart r (Err (refusal FileForm p)) (policy_placed s x y x' y' (read_policy_told r) p w e).0,
 )
 
 pub cut : Cut

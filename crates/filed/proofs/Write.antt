@@ -6,50 +6,40 @@ use mathlib.Core.List.{List, [], ◌∷◌, ◌++◌}
 use Prim.Native.Nat.{ℕ, ◌*◌, ◌≤◌}
 use native.Mathlib.Omega.{arith}
 use lib.ListN.{length, take}
+use Rattle.files.specs.Read.{ReadMatrix, ReadPolicy}
+use Rattle.model.specs.declared.Fault.TheVariants.{Room}
 use Rattle.model.specs.declared.Refusal.{Refusal}
-use Rattle.model.specs.declared.Checked.TheVariants.{Fine}
+use Rattle.std.specs.Prelude.{Ok, Err}
 use Rattle.model.specs.Policy.{Policy, written, domain_of}
-use Rattle.model.specs.Refusal.{Rule, Told, checked, values, refused, over}
+use Rattle.model.specs.Refusal.{Rule, Told, checked, values, told_refusal, single, over}
 use Rattle.model.specs.Rules.{size_rules, matrix_rules, assignment_rules, table_rules, room_rules}
-use Rattle.model.proofs.Groups.{values_refused, tell_fine, told_fine, group_fine}
+use Rattle.model.proofs.Groups.{told_apart, single_one, tell_fine, told_fine, group_fine}
 use Rattle.model.proofs.Rules.{sizes_pass, matrix_pass, assignment_pass, table_pass, room_pass}
 use Rattle.layout.specs.Text.{matrix_text, policy_text}
 use Rattle.layout.specs.Files.{MatrixFile, PolicyFile}
 use Rattle.layout.proofs.Contents.{matrix_one, policy_one}
 use Rattle.writable.specs.Rules.{matrix_write_rules, policy_write_rules}
 use Rattle.writable.proofs.Rules.{matrix_writable, policy_writable}
-use Rattle.files.specs.declared.ReadMatrix.{ReadMatrix}
-use Rattle.files.specs.declared.ReadPolicy.{ReadPolicy}
-use Rattle.files.specs.declared.Wrote.{Wrote}
-use Rattle.files.specs.declared.Wrote.TheVariants.{Length, Refused as WriteRefused}
-use Rattle.files.specs.Write.{wrote_told, Written}
+use Rattle.files.specs.Write.{wrote_told, Written, Wrote}
 use Rattle.filed.specs.Files.{ReadsMatrix, ReadsPolicy, WritesMatrix, WritesPolicy, FileWritten, WriteKeeps, WriteServes}
 use Rattle.filed.specs.Files.{WrittenRead, ReadWritten, WriteUnique}
 use Rattle.filed.proofs.Read.{first_bytes, later_bytes, held_over, held_old, matrix_filled, policy_filled, read_serves}
-
--- ---- what is told determines the answer
-
-pub wrote_apart : (r q : Wrote) → wrote_told r ≡ wrote_told q → r ≡ q
-wrote_apart (Length a) (Length b) e = let q : a ≡ b = cc in ap Length q
-wrote_apart (Length a) (WriteRefused s) e = absurd (values_refused _ s e)
-wrote_apart (WriteRefused r) (Length b) e = absurd (values_refused _ r (sym e))
-wrote_apart (WriteRefused r) (WriteRefused s) e = let q : r ≡ s = cc in ap WriteRefused q
 
 -- ---- writing
 
 module _ (rules : List Rule) (new x x' : List ℕ) where
   -- no rule applied, and what was written is the text
-  written_told : (size : ℕ) → Written rules new x (values (size ∷ [])) x' → (checked rules ≡ Fine) × (length new ≡ size) × (x' ≡ over new x)
+  written_told : (size : ℕ) → Written rules new x (values (size ∷ [])) x' → (checked rules ≡ Ok tt) × (length new ≡ size) × (x' ≡ over new x)
   written_told size w =
       let (fine, e) = told_fine (checked rules) (size ∷ []) (length new ∷ []) w.told in
       let long : length new ≡ size = cc in
       (fine, long, held_over (checked rules) new x x' fine w.left)
 
-  written_kept : (r : Refusal) → Written rules new x (refused r) x' → x' ≡ x
+  written_kept : (r : Refusal) → Written rules new x (told_refusal r) x' → x' ≡ x
   written_kept r w = held_old (checked rules) r (length new ∷ []) new x x' w.told w.left
 
-  written_length : (r : Wrote) (s : List ℕ) → checked rules ≡ Fine → s ≡ new → Written rules new x (wrote_told r) x' → r ≡ Length (length s)
-  written_length r s fine e w = wrote_apart r (Length (length s))
+  written_length : (r : Wrote) (s : List ℕ) → checked rules ≡ Ok tt → s ≡ new → Written rules new x (wrote_told r) x' → r ≡ Ok (length s)
+  written_length r s fine e w = told_apart single single_one r (Ok (length s))
       (w.told ∙ sym (tell_fine (checked rules) fine (length new ∷ [])) ∙ ap (λ (z : List ℕ). values (length z ∷ [])) (sym e))
 
 pub written_one : {rules : List Rule} {text x x' x'' : List ℕ} {t a : Told} → Written rules text x t x' → Written rules text x a x'' → (t ≡ a) × (x' ≡ x'')
@@ -75,28 +65,28 @@ write_keeps n k x x' r = (
   λ P w. written_kept (policy_write_rules n k P (length x)) (policy_text n k P) x x' r w,
 )
 
-matrix_served : (n k : ℕ) (m s : List ℕ) (room : ℕ) → MatrixFile n k m s → length s ≤ room → checked (matrix_write_rules n k m room) ≡ Fine
+matrix_served : (n k : ℕ) (m s : List ℕ) (room : ℕ) → MatrixFile n k m s → length s ≤ room → checked (matrix_write_rules n k m room) ≡ Ok tt
 unfolding matrix_write_rules
 matrix_served n k m s room f h =
     let l = f.matrix.laid in
-    let last = room_rules 11 room (length (matrix_text n k m)) in
+    let last = room_rules Room room (length (matrix_text n k m)) in
     group_fine (size_rules n k 0) (matrix_rules n k m ++ last) (sizes_pass n k 0 l.entities l.right l.rights (omega arith))
     ∙ group_fine (matrix_rules n k m) last (matrix_pass n k m (record { long = l.size; below = f.matrix.below }))
-    ∙ room_pass 11 room (length (matrix_text n k m)) (omega (arith, ap length f.text))
+    ∙ room_pass Room room (length (matrix_text n k m)) (omega (arith, ap length f.text))
 
-policy_served : (n k : ℕ) (P : Policy) (s : List ℕ) (room : ℕ) → PolicyFile n k P s → length s ≤ room → checked (policy_write_rules n k P room) ≡ Fine
+policy_served : (n k : ℕ) (P : Policy) (s : List ℕ) (room : ℕ) → PolicyFile n k P s → length s ≤ room → checked (policy_write_rules n k P room) ≡ Ok tt
 unfolding policy_write_rules domain_of
 policy_served n k P s room f h =
     let d = P.domains in
     let w = f.within in
     let W = w.valid in
-    let last = room_rules 11 room (length (policy_text n k P)) in
+    let last = room_rules Room room (length (policy_text n k P)) in
     let later = table_rules k d P.table ++ last in
     group_fine (size_rules n k d) (assignment_rules n d P.assignment ++ later) (sizes_pass n k d w.entities w.right w.rights w.few)
     ∙ group_fine (assignment_rules n d P.assignment) later
     (assignment_pass n d P.assignment (record { long = W.entities; below = λ i b. W.below i (omega (arith, W.entities)) }))
     ∙ group_fine (table_rules k d P.table) last (table_pass k d P.table (record { long = W.size; below = W.cells }))
-    ∙ room_pass 11 room (length (policy_text n k P)) (omega (arith, ap length f.text))
+    ∙ room_pass Room room (length (policy_text n k P)) (omega (arith, ap length f.text))
 
 pub write_serves : WriteServes
 write_serves n k s x x' r h = (
@@ -137,4 +127,4 @@ read_written n k d s x y x' y' f f' r h = (
 -- ---- two answers that meet a promise are equal
 
 pub write_unique : WriteUnique
-write_unique rules text x x' x'' r q w z = let (e, l) = written_one w z in (wrote_apart r q e, l)
+write_unique rules text x x' x'' r q w z = let (e, l) = written_one w z in (told_apart single single_one r q e, l)

@@ -1,20 +1,15 @@
 -- What is claimed of the two files, over any answers and buffers that meet the promises of the four calls (01, "The two files").
 -- Assumes nothing.
-use Rattle.std.specs.Prelude.{◌≡◌, ◌↔◌, List, ◌∷◌, ◌++◌, ℕ, ◌*◌, ◌≤◌, ◌<◌, length, take, drop}
+use Rattle.std.specs.Prelude.{◌≡◌, ◌↔◌, List, ◌∷◌, ◌++◌, ℕ, ◌*◌, ◌≤◌, ◌<◌, length, take, drop, Ok, Err}
+use Rattle.model.specs.declared.Fault.TheVariants.{FileForm}
 use Rattle.model.specs.declared.Refusal.{Refusal}
 use Rattle.model.specs.Policy.{Policy, written}
 use Rattle.model.specs.Refusal.{Rule, refusal}
 use Rattle.layout.specs.Text.{matrix_text, policy_text}
 use Rattle.layout.specs.Files.{MatrixFile, PolicyFile, MatrixFormed, PolicyFormed, Malformed}
 use Rattle.writable.specs.Rules.{matrix_write_rules, policy_write_rules}
-use Rattle.files.specs.declared.ReadMatrix.{ReadMatrix}
-use Rattle.files.specs.declared.ReadMatrix.TheVariants.{Matrix, Refused as MatrixRefused}
-use Rattle.files.specs.declared.ReadPolicy.{ReadPolicy}
-use Rattle.files.specs.declared.ReadPolicy.TheVariants.{Policy as APolicy, Refused as PolicyRefused}
-use Rattle.files.specs.declared.Wrote.{Wrote}
-use Rattle.files.specs.declared.Wrote.TheVariants.{Length, Refused as WriteRefused}
-use Rattle.files.specs.Read.{read_matrix_told, read_policy_told, MatrixRead, PolicyRead}
-use Rattle.files.specs.Write.{wrote_told, Written}
+use Rattle.files.specs.Read.{read_matrix_told, read_policy_told, MatrixRead, PolicyRead, ReadMatrix, ReadPolicy, of_matrix, of_policy}
+use Rattle.files.specs.Write.{wrote_told, Written, Wrote}
 
 -- the promises of the four calls: s is the file that is read, r the answer, and x' and y' are what the buffers x and y become
 abbrev pub ReadsMatrix : List ℕ → List ℕ → ReadMatrix → List ℕ → Type 0
@@ -33,30 +28,30 @@ WritesPolicy n k P x r x' = Written (policy_write_rules n k P (length x)) (polic
 
 -- demand 2: s is the file of the matrix that is told and filled, or of the policy, and later bytes stay
 abbrev pub MatrixFilled : Type 0
-MatrixFilled = (n k : ℕ) (s x x' : List ℕ) → ReadsMatrix s x (Matrix n k) x'
+MatrixFilled = (n k : ℕ) (s x x' : List ℕ) → ReadsMatrix s x (Ok (of_matrix n k)) x'
     → MatrixFile n k (take (n * k * n) x') s × (drop (n * k * n) x' ≡ drop (n * k * n) x)
 
 abbrev pub PolicyFilled : Type 0
-PolicyFilled = (n k d : ℕ) (s x y x' y' : List ℕ) → ReadsPolicy s x y (APolicy n k d) x' y'
+PolicyFilled = (n k d : ℕ) (s x y x' y' : List ℕ) → ReadsPolicy s x y (Ok (of_policy n k d)) x' y'
     → PolicyFile n k (written n k d x' y') s × (drop n x' ≡ drop n x) × (drop (d * k * d) y' ≡ drop (d * k * d) y)
 
 -- demand 1: where a read refuses, every buffer holds what it held
 abbrev pub ReadKeeps : Type 0
 ReadKeeps = (r : Refusal) (s x y x' y' : List ℕ)
-    → (ReadsMatrix s x (MatrixRefused r) x' → x' ≡ x) × (ReadsPolicy s x y (PolicyRefused r) x' y' → (x' ≡ x) × (y' ≡ y))
+    → (ReadsMatrix s x (Err r) x' → x' ≡ x) × (ReadsPolicy s x y (Err r) x' y' → (x' ≡ x) × (y' ≡ y))
 
 -- demand 2: and it refuses no well-formed file for which there is room
 abbrev pub ReadServes : Type 0
 ReadServes = (n k : ℕ) (s x y x' y' : List ℕ)
-    → ((m : List ℕ) (r : ReadMatrix) → MatrixFile n k m s → length m ≤ length x → ReadsMatrix s x r x' → r ≡ Matrix n k)
+    → ((m : List ℕ) (r : ReadMatrix) → MatrixFile n k m s → length m ≤ length x → ReadsMatrix s x r x' → r ≡ Ok (of_matrix n k))
     × ((P : Policy) (r : ReadPolicy) → PolicyFile n k P s → length P.assignment ≤ length x → length P.table ≤ length y
-    → ReadsPolicy s x y r x' y' → r ≡ APolicy n k P.domains)
+    → ReadsPolicy s x y r x' y' → r ≡ Ok (of_policy n k P.domains))
 
 -- the place: a file that is not well formed is refused with 12 and its place
 abbrev pub Placed : Type 0
 Placed = (s x y x' y' : List ℕ) (p : ℕ)
-    → (Malformed MatrixFormed s p → (r : ReadMatrix) → ReadsMatrix s x r x' → r ≡ MatrixRefused (refusal 12 p))
-    × (Malformed PolicyFormed s p → (r : ReadPolicy) → ReadsPolicy s x y r x' y' → r ≡ PolicyRefused (refusal 12 p))
+    → (Malformed MatrixFormed s p → (r : ReadMatrix) → ReadsMatrix s x r x' → r ≡ Err (refusal FileForm p))
+    × (Malformed PolicyFormed s p → (r : ReadPolicy) → ReadsPolicy s x y r x' y' → r ≡ Err (refusal FileForm p))
 
 -- a well-formed file that is cut short has its length as its place, and one with bytes behind its end the length that it had
 abbrev pub Cut : Type 0
@@ -84,35 +79,35 @@ LongestPolicy = (e : ℕ) → ((s : List ℕ) → PolicyFormed s → length s �
 -- demand 2: what is written is the file, its length is told, and later bytes stay
 abbrev pub FileWritten : Type 0
 FileWritten = (n k size : ℕ) (x x' : List ℕ)
-    → ((m : List ℕ) → WritesMatrix n k m x (Length size) x' → MatrixFile n k m (take size x') × (drop size x' ≡ drop size x))
-    × ((P : Policy) → WritesPolicy n k P x (Length size) x' → PolicyFile n k P (take size x') × (drop size x' ≡ drop size x))
+    → ((m : List ℕ) → WritesMatrix n k m x (Ok size) x' → MatrixFile n k m (take size x') × (drop size x' ≡ drop size x))
+    × ((P : Policy) → WritesPolicy n k P x (Ok size) x' → PolicyFile n k P (take size x') × (drop size x' ≡ drop size x))
 
 -- demand 1: where a write refuses, the buffer holds what it held
 abbrev pub WriteKeeps : Type 0
 WriteKeeps = (n k : ℕ) (x x' : List ℕ) (r : Refusal)
-    → ((m : List ℕ) → WritesMatrix n k m x (WriteRefused r) x' → x' ≡ x) × ((P : Policy) → WritesPolicy n k P x (WriteRefused r) x' → x' ≡ x)
+    → ((m : List ℕ) → WritesMatrix n k m x (Err r) x' → x' ≡ x) × ((P : Policy) → WritesPolicy n k P x (Err r) x' → x' ≡ x)
 
 -- demand 2: and it refuses no matrix and no policy within the limits for whose file there is room
 abbrev pub WriteServes : Type 0
 WriteServes = (n k : ℕ) (s x x' : List ℕ) (r : Wrote) → length s ≤ length x
-    → ((m : List ℕ) → MatrixFile n k m s → WritesMatrix n k m x r x' → r ≡ Length (length s))
-    × ((P : Policy) → PolicyFile n k P s → WritesPolicy n k P x r x' → r ≡ Length (length s))
+    → ((m : List ℕ) → MatrixFile n k m s → WritesMatrix n k m x r x' → r ≡ Ok (length s))
+    × ((P : Policy) → PolicyFile n k P s → WritesPolicy n k P x r x' → r ≡ Ok (length s))
 
 -- ---- there and back
 
 -- demand 2: reading what was written gives back the same numbers and bytes
 abbrev pub WrittenRead : Type 0
 WrittenRead = (n k size : ℕ) (f f' x y x' y' : List ℕ)
-    → ((m : List ℕ) (r : ReadMatrix) → WritesMatrix n k m f (Length size) f' → length m ≤ length x → ReadsMatrix (take size f') x r x'
-    → (r ≡ Matrix n k) × (take (length m) x' ≡ m))
-    × ((P : Policy) (r : ReadPolicy) → WritesPolicy n k P f (Length size) f' → length P.assignment ≤ length x → length P.table ≤ length y
-    → ReadsPolicy (take size f') x y r x' y' → (r ≡ APolicy n k P.domains) × (written n k P.domains x' y' ≡ P))
+    → ((m : List ℕ) (r : ReadMatrix) → WritesMatrix n k m f (Ok size) f' → length m ≤ length x → ReadsMatrix (take size f') x r x'
+    → (r ≡ Ok (of_matrix n k)) × (take (length m) x' ≡ m))
+    × ((P : Policy) (r : ReadPolicy) → WritesPolicy n k P f (Ok size) f' → length P.assignment ≤ length x → length P.table ≤ length y
+    → ReadsPolicy (take size f') x y r x' y' → (r ≡ Ok (of_policy n k P.domains)) × (written n k P.domains x' y' ≡ P))
 
 -- and writing what was read gives back the same file
 abbrev pub ReadWritten : Type 0
 ReadWritten = (n k d : ℕ) (s x y x' y' f f' : List ℕ) (r : Wrote) → length s ≤ length f
-    → (ReadsMatrix s x (Matrix n k) x' → WritesMatrix n k (take (n * k * n) x') f r f' → (r ≡ Length (length s)) × (take (length s) f' ≡ s))
-    × (ReadsPolicy s x y (APolicy n k d) x' y' → WritesPolicy n k (written n k d x' y') f r f' → (r ≡ Length (length s)) × (take (length s) f' ≡ s))
+    → (ReadsMatrix s x (Ok (of_matrix n k)) x' → WritesMatrix n k (take (n * k * n) x') f r f' → (r ≡ Ok (length s)) × (take (length s) f' ≡ s))
+    × (ReadsPolicy s x y (Ok (of_policy n k d)) x' y' → WritesPolicy n k (written n k d x' y') f r f' → (r ≡ Ok (length s)) × (take (length s) f' ≡ s))
 
 -- ---- two answers that meet a promise are equal, and so are the buffers
 

@@ -5,8 +5,9 @@ use mathlib.Core.List.{List, [], ◌∷◌, ◌++◌}
 use Prim.Native.Nat.{ℕ, ◌≤◌}
 use native.Mathlib.Omega.{arith}
 use lib.ListN.{length}
+use Rattle.model.specs.declared.Fault.TheVariants.{AssignmentRoom, Room, FileForm}
 use Rattle.model.specs.Policy.{Policy}
-use Rattle.model.specs.Refusal.{refusal, Told, refused}
+use Rattle.model.specs.Refusal.{refusal, Told, told_refusal}
 use Rattle.model.specs.Rules.{size_rules, matrix_rules, assignment_rules, table_rules, room_rules}
 use Rattle.model.proofs.Groups.{gives_group, groups_fine}
 use Rattle.model.proofs.Places.{small}
@@ -20,21 +21,22 @@ use Rattle.files.specs.Read.{MatrixRead, PolicyRead}
 use Rattle.files.specs.Write.{Written}
 use Rattle.filed.proofs.Read.{matrix_read_one, policy_read_one}
 use Rattle.filed.proofs.Write.{written_one}
-use Rattle.word.specs.Word.{word, Carried, none, more, Held}
+use Rattle.word.specs.Word.{word}
+use Rattle.word.specs.Held.{none, more, Held}
 use Rattle.filewords.specs.Files.{ReadMatrixKept, ReadPolicyKept, WriteMatrixKept, WritePolicyKept, MatrixWordUnique, PolicyWordUnique, WrittenWordUnique}
-use Rattle.word.proofs.Word.{word_kept, word_low, told_held}
+use Rattle.word.proofs.Word.{word_kept, word_low, told_held, RefusalCarried}
 use Rattle.word.proofs.Carried.{carried, sizes_carried, matrix_carried, assignment_carried, table_carried, room_carried}
 
-malformed_held : (ws : List ℕ) (p : ℕ) → p ≤ 33230 → Held ws (refused (refusal 12 p))
-malformed_held ws p h = carried 12 p (omega arith) (omega arith) (omega arith)
+malformed_held : (ws : List ℕ) (p : ℕ) → p ≤ 33230 → Held ws (told_refusal (refusal FileForm p))
+malformed_held ws p h = carried FileForm p (omega arith)
 
 -- ---- reading
 
 pub matrix_read_held : (s x x' : List ℕ) (t : Told) → MatrixRead s x t x' → Held (8 ∷ 8 ∷ []) t
 matrix_read_held s x x' t (MatrixRead.formed n k m f e _) =
     let l = f.matrix.laid in
-    subst (Held (8 ∷ 8 ∷ [])) (sym e) (told_held (8 ∷ 8 ∷ []) (room_rules 11 (length x) (length m)) (n ∷ k ∷ [])
-    (room_carried 11 (length x) (length m) (omega arith) (omega arith) (omega (arith, l.size, (small l.entities l.rights l.entities).cells)))
+    subst (Held (8 ∷ 8 ∷ [])) (sym e) (told_held (8 ∷ 8 ∷ []) (room_rules Room (length x) (length m)) (n ∷ k ∷ [])
+    (room_carried Room (length x) (length m) (omega (arith, l.size, (small l.entities l.rights l.entities).cells)))
     (λ _. more (omega (arith, l.entities)) (more (omega (arith, l.rights)) none)))
 matrix_read_held s x x' t (MatrixRead.malformed p m e _) =
     subst (Held (8 ∷ 8 ∷ [])) (sym e) (malformed_held (8 ∷ 8 ∷ []) p
@@ -42,12 +44,12 @@ matrix_read_held s x x' t (MatrixRead.malformed p m e _) =
 
 pub policy_read_held : (s x y x' y' : List ℕ) (t : Told) → PolicyRead s x y t x' y' → Held (8 ∷ 8 ∷ 8 ∷ []) t
 policy_read_held s x y x' y' t (PolicyRead.formed n k P f e _ _) =
-    let names = room_rules 10 (length x) (length P.assignment) in
-    let cells = room_rules 11 (length y) (length P.table) in
+    let names = room_rules AssignmentRoom (length x) (length P.assignment) in
+    let cells = room_rules Room (length y) (length P.table) in
     subst (Held (8 ∷ 8 ∷ 8 ∷ [])) (sym e) (told_held (8 ∷ 8 ∷ 8 ∷ []) (names ++ cells) (n ∷ k ∷ P.domains ∷ [])
-    (gives_group Carried names cells
-    (room_carried 10 (length x) (length P.assignment) (omega arith) (omega arith) (omega (arith, f.within.valid.entities, f.within.entities)))
-    (λ _. room_carried 11 (length y) (length P.table) (omega arith) (omega arith)
+    (gives_group RefusalCarried names cells
+    (room_carried AssignmentRoom (length x) (length P.assignment) (omega (arith, f.within.valid.entities, f.within.entities)))
+    (λ _. room_carried Room (length y) (length P.table)
     (omega (arith, f.within.valid.size, (small f.within.few f.within.rights f.within.few).cells))))
     (λ _. more (omega (arith, f.within.entities)) (more (omega (arith, f.within.rights)) (more (omega (arith, f.within.few)) none))))
 policy_read_held s x y x' y' t (PolicyRead.malformed p m e _ _) =
@@ -66,12 +68,12 @@ pub matrix_written_held : (n k : ℕ) (m x x' : List ℕ) (t : Told) → Written
 unfolding matrix_write_rules
 matrix_written_held n k m x x' t w =
     let size = length (matrix_text n k m) in
-    let rest = matrix_rules n k m ++ room_rules 11 (length x) size in
+    let rest = matrix_rules n k m ++ room_rules Room (length x) size in
     subst (Held (24 ∷ [])) (sym w.told) (told_held (24 ∷ []) (size_rules n k 0 ++ rest) (size ∷ [])
-    (gives_group Carried (size_rules n k 0) rest (sizes_carried n k 0) (λ e.
+    (gives_group RefusalCarried (size_rules n k 0) rest (sizes_carried n k 0) (λ e.
     let s = sizes_fine n k 0 e in
-    gives_group Carried (matrix_rules n k m) (room_rules 11 (length x) size) (matrix_carried n k 0 s m)
-    (λ _. room_carried 11 (length x) size (omega arith) (omega arith) (omega (arith, matrix_room_lem n k m s)))))
+    gives_group RefusalCarried (matrix_rules n k m) (room_rules Room (length x) size) (matrix_carried n k 0 s m)
+    (λ _. room_carried Room (length x) size (omega (arith, matrix_room_lem n k m s)))))
     (λ e. more (omega (arith, matrix_room_lem n k m (sizes_fine n k 0 (groups_fine (size_rules n k 0) rest e).0))) none))
 
 pub policy_written_held : (n k : ℕ) (P : Policy) (x x' : List ℕ) (t : Told) → Written (policy_write_rules n k P (length x)) (policy_text n k P) x t x'
@@ -80,14 +82,14 @@ unfolding policy_write_rules
 policy_written_held n k P x x' t w =
     let d = P.domains in
     let size = length (policy_text n k P) in
-    let cells = table_rules k d P.table ++ room_rules 11 (length x) size in
+    let cells = table_rules k d P.table ++ room_rules Room (length x) size in
     let rest = assignment_rules n d P.assignment ++ cells in
     subst (Held (24 ∷ [])) (sym w.told) (told_held (24 ∷ []) (size_rules n k d ++ rest) (size ∷ [])
-    (gives_group Carried (size_rules n k d) rest (sizes_carried n k d) (λ e.
+    (gives_group RefusalCarried (size_rules n k d) rest (sizes_carried n k d) (λ e.
     let s = sizes_fine n k d e in
-    gives_group Carried (assignment_rules n d P.assignment) cells (assignment_carried n k d s P.assignment) (λ _.
-    gives_group Carried (table_rules k d P.table) (room_rules 11 (length x) size) (table_carried n k d s P.table)
-    (λ _. room_carried 11 (length x) size (omega arith) (omega arith) (policy_room_lem n k P s)))))
+    gives_group RefusalCarried (assignment_rules n d P.assignment) cells (assignment_carried n k d s P.assignment) (λ _.
+    gives_group RefusalCarried (table_rules k d P.table) (room_rules Room (length x) size) (table_carried n k d s P.table)
+    (λ _. room_carried Room (length x) size (policy_room_lem n k P s)))))
     (λ e. more (omega (arith, policy_room_lem n k P (sizes_fine n k d (groups_fine (size_rules n k d) rest e).0))) none))
 
 -- ---- so the words lose nothing

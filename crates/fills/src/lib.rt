@@ -26,15 +26,13 @@ pub fn number_at(s: &[u8], at: usize) -> usize
     digit_at(s, at) * 10 + digit_at(s, at + 1)
 }
 
-// The values of w cells from `at` on, to `out` from `to` on.
-pub fn fill_cells(s: &[u8], at: usize, w: usize, out: &mut [u8], to: usize)
-    requires { (at + w ≤ length s.now) × (to + w ≤ length out.old) }
-    ensures { out.new ≡ sets out.old to (tab w (λ i. cell_of (get_or s.now (at + i) 0))) }
+// The values of a row's cells.
+fn fill_cells(row: &[u8], out: &mut [u8])
+    requires { length out.old ≡ length row.now }
+    ensures { out.new ≡ tab (length row.now) (λ i. cell_of (get_or row.now i 0)) }
 {
-    let mut i = 0;
-    while i < w {
-        out[to + i] = readers::cell_of(s[at + i]);
-        i += 1;
+    for (i, x) in row.iter().enumerate() {
+        out[i] = readers::cell_of(*x);
     }
 }
 
@@ -44,25 +42,20 @@ pub fn fill_records(s: &[u8], at: usize, w: usize, c: usize, out: &mut [u8])
     ensures { out.new
         ≡ sets out.old 0 (each c (row_at s.now at w)) }
 {
-    let mut from = at;
-    let mut to = 0;
-    let mut u = 0;
-    while u < c {
-        fill_cells(s, from + 4, w, out, to);
-        from += w + 5;
-        to += w;
-        u += 1;
+    for u in 0..c {
+        let from = at + u * (w + 5) + 4;
+        let to = u * w;
+        fill_cells(&s[from..from + w], &mut out[to..to + w]);
     }
 }
 
 // The values of n numbers.
+#[tactic(auto, using(layout::proofs::Puts::tab_start, layout::proofs::Puts::tab_turn))]
 pub fn fill_numbers(s: &[u8], at: usize, n: usize, out: &mut [u8])
     requires { (at + n * 2 ≤ length s.now) × (n ≤ length out.old) }
     ensures { out.new ≡ sets out.old 0 (tab n (λ u. number_at s.now (at + u * 2))) }
 {
-    let mut u = 0;
-    while u < n {
+    for u in 0..n {
         out[u] = number_at(s, at + u * 2) as u8;
-        u += 1;
     }
 }

@@ -1,11 +1,12 @@
 -- What the judge answers (01, "The calls" and "Numbers of refusal"). Assumes nothing.
-use Rattle.std.specs.Prelude.{◌≡◌, cond, List, [], ◌∷◌, ◌++◌, ℕ, ◌*◌, ltb, get_or}
+use Rattle.std.specs.Prelude.{◌≡◌, cond, List, [], ◌∷◌, ◌++◌, ℕ, ◌*◌, ltb, get_or, Result}
+use Rattle.model.specs.declared.Refusal.{Refusal}
 use Rattle.model.specs.Policy.{Policy}
-use Rattle.model.specs.Refusal.{Rule, checked, Told, values, refused, tell}
+use Rattle.model.specs.Refusal.{Rule, checked, Told, tell, told}
 use Rattle.model.specs.Rules.{size_rules, matrix_rules, assignment_rules, table_rules}
 use Rattle.conflicts.specs.Conflict.{conflict}
-use Rattle.judge.specs.declared.Judged.{Judged}
-use Rattle.judge.specs.declared.Judged.TheVariants.{Enforces, Conflict, Refused}
+use Rattle.judge.specs.declared.Verdict.{Verdict}
+use Rattle.judge.specs.declared.Verdict.TheVariants.{Enforces, Conflict}
 
 -- 1, 2, 3, 5, 6, 7, 8
 unfoldable pub judge_rules : ℕ → ℕ → List ℕ → Policy → List Rule
@@ -21,11 +22,17 @@ verdict n k m P = cond (ltb (conflict n k m P) (n * k * n)) (1 ∷ conflict n k 
 unfoldable pub judge_told : ℕ → ℕ → List ℕ → Policy → Told
 judge_told n k m P = tell (checked (judge_rules n k m P)) (verdict n k m P)
 
--- the answer's number and values, case by case
+-- the number and values of a verdict, case by case
+abbrev pub verdict_values : Verdict → List ℕ
+verdict_values (Enforces d) = 0 ∷ d ∷ []
+verdict_values (Conflict i x) = 1 ∷ i ∷ x ∷ []
+
+-- what the judge answers: the verdict, or a refusal
+abbrev pub Judged : Type 0
+Judged = Result Verdict Refusal
+
 abbrev pub judged_told : Judged → Told
-judged_told (Enforces d) = values (0 ∷ d ∷ [])
-judged_told (Conflict i x) = values (1 ∷ i ∷ x ∷ [])
-judged_told (Refused r) = refused r
+judged_told r = told verdict_values r
 
 -- the promise: r is the judgement of P over m
 abbrev pub Judges : ℕ → ℕ → List ℕ → Policy → Judged → Type 0

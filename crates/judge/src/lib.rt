@@ -7,32 +7,42 @@ ghost use Rattle.model.specs.Policy.{policy};
 ghost use Rattle.model.specs.Refusal.{checked};
 ghost use Rattle.judge.specs.Judge.{judge_rules, Judges};
 
-use model::{Checked, Refusal};
+use model::{Matrix, Refusal};
 
-#[derive(Drop)]
-pub enum Judged {
+// What a policy is found to be: it enforces, with so many domains; or it conflicts at a cell, where that value is logged.
+#[derive(Clone, Copy, Debug, PartialEq, Eq)]
+pub enum Verdict {
     Enforces(usize),
     Conflict { cell: usize, logged: u8 },
-    Refused(Refusal),
 }
 
 // Enforces, with d, if the policy of d domains enforces every logged cell; else the first conflict in cell order, with the logged
 // value. Refused in this order: 1; 2; 3; 5; 6; 7; 8.
-pub fn judge(n: usize, k: usize, d: usize, matrix: &[u8], assignment: &[u8], table: &[u8]) -> Judged
+#[tactic(auto, unfolding(crate::specs::Judge::judge_told))]
+pub fn judge(
+    n: usize,
+    k: usize,
+    d: usize,
+    matrix: &[u8],
+    assignment: &[u8],
+    table: &[u8],
+) -> Result<Verdict, Refusal>
     ensures { Judges n k matrix.now (policy d assignment.now table.now) result }
 {
-    let found = judge_fits(n, k, d, matrix, assignment, table);
-    if let Checked::Bad(r) = found {
-        return Judged::Refused(r);
-    }
-    let cell = conflicts::first_conflict(n, k, d, matrix, assignment, table);
-    if cell < matrix.len() {
-        let logged = matrix[cell];
-        return Judged::Conflict { cell, logged };
-    }
-    Judged::Enforces(d)
+    judge_fits(n, k, d, matrix, assignment, table)?;
+    let m = Matrix {
+        n,
+        k,
+        cells: matrix,
+    };
+    let Some(cell) = conflicts::first_conflict(&m, d, assignment, table) else {
+        return Ok(Verdict::Enforces(d));
+    };
+    let logged = matrix[cell];
+    Ok(Verdict::Conflict { cell, logged })
 }
 
+#[tactic(auto, using(model::proofs::Rules::decided), unfolding(crate::specs::Judge::judge_rules))]
 fn judge_fits(
     n: usize,
     k: usize,
@@ -40,20 +50,11 @@ fn judge_fits(
     matrix: &[u8],
     assignment: &[u8],
     table: &[u8],
-) -> Checked
+) -> Result<(), Refusal>
     ensures { result ≡ checked (judge_rules n k matrix.now (policy d assignment.now table.now)) }
 {
-    let sized = scan::sizes(n, k, d);
-    if let Checked::Bad(r) = sized {
-        return Checked::Bad(r);
-    }
-    let cells = lists::matrix_fits(n, k, matrix);
-    if let Checked::Bad(r) = cells {
-        return Checked::Bad(r);
-    }
-    let domains = lists::assignment_fits(n, d, assignment);
-    if let Checked::Bad(r) = domains {
-        return Checked::Bad(r);
-    }
+    scan::sizes(n, k, d)?;
+    lists::matrix_fits(n, k, matrix)?;
+    lists::assignment_fits(n, d, assignment)?;
     lists::table_fits(k, d, table)
 }

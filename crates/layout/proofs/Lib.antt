@@ -6,5 +6,4 @@ pub mod Files
 pub mod Contents
 pub mod Cuts
 pub mod Faults
-pub mod Stops
 pub mod Puts

@@ -1,5 +1,5 @@
 -- A layout as a tree of bytes, for the functions below the calls; proofs/ show that its files are those of Files. Assumes nothing.
-use Rattle.std.specs.Prelude.{◌≡◌, Bool, cond, ◌&&◌, List, [], ◌∷◌, ℕ, zero, suc, ◌+◌, ◌-◌, ◌*◌, ◌≤◌, ◌<◌, eqb, leb, ltb, length, get_or, drop}
+use Rattle.std.specs.Prelude.{Bool, cond, ◌&&◌, List, [], ◌∷◌, ℕ, zero, suc, ◌+◌, ◌-◌, ◌*◌, eqb, leb, ltb, get_or}
 use Rattle.model.specs.Below.{tab}
 use Rattle.layout.specs.Text.{MX, RW, PD, AS, TB, ZZ}
 
@@ -14,22 +14,6 @@ reach end [] = 1
 reach end (x ∷ s) = 0
 reach (byte P F) [] = 0
 reach (byte P F) (x ∷ s) = cond (P x) (suc (reach (F x) s)) 0
-
--- a reader that began at `at`, where s is to go on with the layout A, stopped at r: at e, behind which B is to follow, or short of it,
--- where s does not fit
-pub record Stops (s : List ℕ) (at e r : ℕ) (A B : Layout) : Type 0 where
-  pub within : r ≤ e
-  pub inside : r ≤ length s
-  pub reached : at + reach A (drop at s) ≡ cond (ltb r e) r (e + reach B (drop e s))
-
--- the same of a piece A, whatever layout is to follow
-abbrev pub Piece : List ℕ → ℕ → ℕ → ℕ → (Layout → Layout) → Type 0
-Piece s at e r A = (F : Layout) → Stops s at e r (A F) F
-
--- and of a piece that is a number x, from lo on and below hi, by which the layout goes on
-pub record Value (s : List ℕ) (at e r : ℕ) (A : (ℕ → Layout) → Layout) (lo hi x : ℕ) : Type 0 where
-  pub stops : (F : ℕ → Layout) → Stops s at e r (A F) (F x)
-  pub range : e ≤ r → (lo ≤ x) × (x < hi)
 
 -- ---- the pieces, each before a layout F
 
@@ -86,13 +70,6 @@ records mark lim w c = times c (record_of mark lim w)
 unfoldable pub sizes : List ℕ → (ℕ → ℕ → Layout) → Layout
 sizes mark F = text mark (number 0 65 (λ n. digit 1 9 (λ k. F n k)))
 
--- a reader of these stopped at r: n and k are the numbers that stand there
-pub record Sizes (s : List ℕ) (r : ℕ) (mark : List ℕ) (n k : ℕ) : Type 0 where
-  pub stops : (F : ℕ → ℕ → Layout) → Stops s 0 5 r (sizes mark F) (F n k)
-  pub entities : 5 ≤ r → n ≤ 64
-  pub right : 5 ≤ r → 0 < k
-  pub rights : 5 ≤ r → k ≤ 8
-
 -- the last line, with nothing behind it
 unfoldable pub close : Layout
 close = text ZZ (text (10 ∷ []) end)
@@ -112,13 +89,6 @@ assigned d n F = text AS (numbers d n (text (10 ∷ []) F))
 
 unfoldable pub policy_layout : Layout
 policy_layout = policy_sizes (λ n k d. assigned d n (records TB 2 (k * d) d close))
-
--- a reader of the first line stopped at r: n, k and d are the numbers that stand there
-pub record PolicySizes (s : List ℕ) (r n k d : ℕ) : Type 0 where
-  pub stops : (F : ℕ → ℕ → ℕ → Layout) → Stops s 0 8 r (policy_sizes F) (F n k d)
-  pub entities : 8 ≤ r → n ≤ 64
-  pub rights : 8 ≤ r → k ≤ 8
-  pub domains : 8 ≤ r → d ≤ 64
 
 -- the numbers that stand at a place
 abbrev pub digit_at : List ℕ → ℕ → ℕ

@@ -1,67 +1,37 @@
 -- Rows and columns, compared from end to end, are the test of alike: a row's place is one right and one receiver, and a line is one
 -- sender and one right. Assumes nothing.
 use mathlib.Core.Path.{◌≡◌, refl, sym, ◌∙◌, subst}
-use mathlib.Core.Bool.{Bool, true, false, ◌&&◌}
+use mathlib.Core.Bool.{Bool, true, false}
 use mathlib.Core.List.{List}
+use mathlib.Core.Logic.{◌≢◌}
 use Prim.Native.Nat.{ℕ, ◌+◌, ◌*◌, ◌/◌, ◌%◌, ◌≤◌, ◌<◌}
-use native.Mathlib.Decide.{ℕ_discrete}
-use native.Mathlib.Numerals.{add-one}
 use native.Mathlib.Omega.{arith}
-use borrow.Author.Tests.{eq-eqb, ne_eqb}
+use borrow.Author.Tests.{ne_eqb}
 use lib.Arith.{digits_lt}
-use lib.Bits.{bit_or, bit_xor, or_add_and, xor_add_and, and_le_l, and_le_r, xor_self}
 use lib.Dec.{T, eqb, eqb→eq}
 use lib.ListN.{length, get_or}
+use Rattle.std.specs.Bool.{MatchBool}
 use Rattle.model.specs.Below.{all}
 use Rattle.model.specs.Matrix.{cell, Laid, row_of}
 use Rattle.model.specs.Alike.{SameRows, rows_test, flip, alike_test}
-use Rattle.model.proofs.Tests.{same_test_lem, false_of, eqb_of}
+use Rattle.model.proofs.Tests.{same_test_lem, true_of, eqb_of}
 use Rattle.model.proofs.Below.{all_at, all_of}
-use Rattle.model.proofs.Loops.{all_none}
+use Rattle.model.proofs.Loops.{all_fails}
 use Rattle.model.proofs.Rows.{inside, passed, row_length, rows_told, row_at}
-use Rattle.model.proofs.Places.{spot}
+use Rattle.model.proofs.Places.{spot, small}
 use Rattle.model.proofs.Alike.{rows_sound, rows_complete}
 use Rattle.lines.specs.Lines.{agree_test, same_test, columns_test}
 
--- ---- with no branch: `apart` is 0 exactly while all are the same
+-- ---- answers at each number
 
-or_xor : (a p q : ℕ) → eqb (bit_or a (bit_xor p q)) 0 ≡ (eqb p q && eqb a 0)
-or_xor a p q = go (ℕ_discrete p q) (ℕ_discrete a 0)
-  where
-    go : Dec (p ≡ q) → Dec (a ≡ 0) → eqb (bit_or a (bit_xor p q)) 0 ≡ (eqb p q && eqb a 0)
-    go (yes e) (yes f) = rw (e, f, xor_self q, eq-eqb q q refl) refl
-    go (no e) d = rw (ne_eqb p q e) (ne_eqb (bit_or a (bit_xor p q)) 0 (λ z. e (omega (
-      arith,
-      or_add_and a (bit_xor p q),
-      and_le_l a (bit_xor p q),
-      and_le_r a (bit_xor p q),
-      xor_add_and p q,
-      and_le_l p q,
-      and_le_r p q,
-    ))))
-    go (yes e) (no f) = rw (eq-eqb p q e, ne_eqb a 0 f) (ne_eqb (bit_or a (bit_xor p q)) 0 (λ z. f (omega (
-      arith,
-      or_add_and a (bit_xor p q),
-      and_le_l a (bit_xor p q),
-      and_le_r a (bit_xor p q),
-    ))))
-
-module _ (f g : ℕ → ℕ) where
-  pub agree_none : agree_test 0 f g ≡ true
-  unfolding agree_test
-  agree_none = all_none (λ i. eqb (f i) (g i))
-
-  pub agree_next : (i a : ℕ) → eqb a 0 ≡ agree_test i f g → eqb (bit_or a (bit_xor (f i) (g i))) 0 ≡ agree_test (i + 1) f g
-  unfolding agree_test all
-  agree_next i a e = or_xor a (f i) (g i) ∙ rw (e, add-one i)
-
-  -- what differs early differs
-  pub agree_fails : (i e : ℕ) → i ≤ e → agree_test i f g ≡ false → false ≡ agree_test e f g
-  unfolding agree_test
-  agree_fails i e h w = sym (false_of (all e at) (λ t. subst T w (all_of i at (λ j l. all_at e at t j (omega arith)))))
-    where
-      at : ℕ → Bool
-      at j = eqb (f j) (g j)
+-- an answer that is yes where each of the first e numbers passes, and no where one of them fails, is the test
+pub agree_told : (b : Bool) (e : ℕ) (f g : ℕ → ℕ) {Yes No : ℕ → Type 0}
+    → MatchBool b ((j : ℕ) → j < e → Yes j) ((j : ℕ) × (j < e) × No j)
+    → ((j : ℕ) → Yes j → f j ≡ g j) → ((j : ℕ) → No j → f j ≢ g j) → b ≡ agree_test e f g
+unfolding agree_test
+agree_told true e f g all same other = sym (true_of _ (all_of e (λ i. eqb (f i) (g i)) (λ j l. eqb_of (f j) (g j) (same j (all j l)))))
+agree_told false e f g one same other =
+    sym (all_fails e one.0 (λ i. eqb (f i) (g i)) one.1 (ne_eqb (f one.0) (g one.0) (other one.0 one.2)))
 
 -- ---- rows and columns of a matrix
 
@@ -69,9 +39,13 @@ module _ (f g : ℕ → ℕ) where
 pub record Line (n size j x : ℕ) : Type 0 where
   pub start : j * n ≤ 32768
   pub inside : j * n + x < size
+  pub few : size ≤ 32768
 
-pub line : {n size e j x : ℕ} → size ≤ 32768 → e * n ≤ size → j < e → x < n → Line n size j x
-line {n} {size} {e} {j} {x} few whole h l = let inside : j * n + x < e * n = digits_lt h l in record { start = omega arith; inside = omega arith }
+pub line : {n k j x : ℕ} {m : List ℕ} → Laid n k m → j < n * k → x < n → Line n (length m) j x
+line {n} {k} {j} {x} {m} L h l =
+    let few : length m ≤ 32768 = omega (arith, (small L.entities L.rights L.entities).cells, L.size) in
+    let inside : j * n + x < n * k * n = digits_lt h l in
+    record { start = omega (arith, L.size); inside = omega (arith, L.size); few = few }
 
 module _ (n k : ℕ) (m : List ℕ) (L : Laid n k m) where
   module _ (u v : ℕ) (h : u < n) (l : v < n) where
@@ -113,14 +87,14 @@ module _ (n k : ℕ) (m : List ℕ) (L : Laid n k m) where
         at : ℕ → Bool
         at i = eqb (get_or m (i * n + u) 0) (get_or m (i * n + v) 0)
 
-    -- the two exits of `same`, where b tells of the parts of the matrix that are passed
+    -- the two ends of `same`, where b tells of the parts of the matrix that are passed
     module _ (b : Bool) (e : b ≡ same_test (length (passed n k m u)) (passed n k m u) (passed n k m v)) where
       told : rows_test n k (cell k n m) u v ≡ b
       told = sym rows_same ∙ rows_told n k m u v (λ r s. same_test (length r) r s) b e
 
-      pub rows_differ : b ≡ false → false ≡ alike_test n k (cell k n m) u v
+      pub rows_differ : b ≡ false → b ≡ alike_test n k (cell k n m) u v
       unfolding alike_test
-      rows_differ f = rw (told, f)
+      rows_differ f = f ∙ rw (told, f) refl
 
       pub rows_then_columns : b ≡ true → columns_test (n * k) n m u v ≡ alike_test n k (cell k n m) u v
       unfolding alike_test

@@ -7,8 +7,7 @@ ghost use Rattle.model.specs.Matrix.{Holds};
 ghost use Rattle.model.specs.Refusal.{over};
 ghost use Rattle.woven.specs.Weave.{answer_text, longest, Wove};
 
-use build::Built;
-use files::ReadMatrix;
+use places::MatrixSizes;
 
 // The answer to a matrix that is within the limits, and its length. The policy is built in the two buffers that are lent.
 fn put_answer(
@@ -24,12 +23,9 @@ fn put_answer(
     ensures value { result ≡ length (answer_text n k matrix.now) }
     ensures output_after { output.new ≡ over (answer_text n k matrix.now) output.old }
 {
-    let built = build::build(n, k, matrix, assignment, table);
-    match built {
-        Built::Domains(d) => {
-            texts::put_policy(n, k, d, &assignment[..n], &table[..d * k * d], output)
-        }
-        Built::Refused(r) => refusals::put_refusal(r, output),
+    match build::build(n, k, matrix, assignment, table) {
+        Ok(d) => texts::put_policy(n, k, d, &assignment[..n], &table[..d * k * d], output),
+        Err(r) => refusals::put_refusal(r, output),
     }
 }
 
@@ -55,11 +51,11 @@ fn weave_in(
     requires { (32768 ≤ length matrix.old) × (64 ≤ length assignment.old) × (32768 ≤ length table.old) × (longest ≤ length output.old) }
     ensures { Wove input.now output.old result output.new }
 {
-    let read = files::read_matrix(input, matrix);
-    match read {
-        ReadMatrix::Matrix { n, k } => {
+    match files::read_matrix(input, matrix) {
+        Ok(sizes) => {
+            let MatrixSizes { n, k } = sizes;
             put_answer(n, k, &matrix[..n * k * n], assignment, table, output)
         }
-        ReadMatrix::Refused(r) => refusals::put_refusal(r, output),
+        Err(r) => refusals::put_refusal(r, output),
     }
 }

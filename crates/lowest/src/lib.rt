@@ -2,66 +2,55 @@
 
 #![tactic(auto)]
 
-ghost use Rattle.std.specs.Prelude.{◌≡◌, ◌≤◌, ◌<◌, leb, length, get_or};
+ghost use Rattle.std.specs.Prelude.{◌≡◌, ◌+◌, ◌<◌, min, leb, length, get_or, position};
 ghost use Rattle.model.specs.Below.{any};
-ghost use Rattle.model.specs.Rules.{lowest};
+ghost use Rattle.lowest.specs.Place.{IsLowest};
 
 // Whether some byte is b or more. There is no branch inside, so that the compiler takes many bytes at a time.
 fn reaches(s: &[u8], b: u8) -> bool
     ensures { result ≡ any (length s.now) (λ i. leb b (get_or s.now i 0)) }
 {
     let mut found = false;
-    let mut i = 0;
-    while i < s.len() {
-        found = found | (b <= s[i]);
-        i += 1;
+    for x in s {
+        found = found | (b <= *x);
     }
     found
 }
 
-// The lowest place of a byte that is b or more, or the length: byte by byte.
-fn lowest_in(s: &[u8], b: u8) -> usize
-    ensures { result ≡ lowest (leb b) s.now }
+// The lowest place of a byte that is b or more: byte by byte.
+fn lowest_in(s: &[u8], b: u8) -> Option<usize>
+    ensures { result ≡ position (leb b) s.now }
 {
-    let mut i = 0;
-    while i < s.len() {
-        if b <= s[i] {
-            return i;
-        }
-        i += 1;
-    }
-    i
+    s.iter().position(|x| b <= *x)
 }
 
 // The same by blocks: only the block that has such a byte is looked through.
-fn lowest_by_blocks(s: &[u8], b: u8) -> usize
-    ensures { result ≡ lowest (leb b) s.now }
+fn lowest_by_blocks(s: &[u8], b: u8) -> Option<usize>
+    ensures { IsLowest (leb b) s.now result }
 {
-    let mut i = 0;
-    while i < s.len() {
+    for i in (0..s.len()).step_by(256) {
         let e = block_end(i, s.len());
         if reaches(&s[i..e], b) {
-            return i + lowest_in(&s[i..e], b);
+            return Some(i + lowest_in(&s[i..e], b)?);
         }
-        i = e;
     }
-    i
+    None
 }
 
-// The end of the block that starts at i.
+// The end of the block that starts at i: the last one may be shorter.
 fn block_end(i: usize, end: usize) -> usize
     requires { i < end }
-    ensures { (i < result) × (result ≤ end) }
+    ensures { result ≡ min (i + 256) end }
 {
     if 256 < end - i { i + 256 } else { end }
 }
 
-// The lowest place of a byte that is b or more, or the length.
-pub fn lowest_from(s: &[u8], b: usize) -> usize
-    ensures { result ≡ lowest (leb b) s.now }
+// The lowest place of a byte that is b or more.
+pub fn lowest_from(s: &[u8], b: usize) -> Option<usize>
+    ensures { IsLowest (leb b) s.now result }
 {
     if 255 < b {
-        return s.len();
+        return None;
     }
     lowest_by_blocks(s, b as u8)
 }

@@ -3,55 +3,86 @@
 use mathlib.Core.Path.{◌≡◌, refl, sym, ap, ◌∙◌, subst}
 use mathlib.Core.Bool.{Bool, true, false, cond}
 use mathlib.Core.List.{List, [], ◌∷◌, ◌++◌}
-use Prim.Native.Nat.{ℕ}
-use lib.ListN.{length, drop}
+use Prim.Native.Nat.{ℕ, ◌-◌}
+use lib.ListN.{length, get_or, drop}
 use native.Mathlib.Omega.{arith}
 use borrow.Author.Rules.{rules}
 use borrow.Author.Tests.{lt-ltb, le-ltb, le-leb, lt-leb, eq-eqb, ne_eqb}
+use Rattle.model.specs.declared.Fault.{Fault}
+use Rattle.model.specs.declared.Fault.TheVariants.{Limit, MatrixLength, MatrixCell, Unlogged, AssignmentLength, DomainNumber}
+use Rattle.model.specs.declared.Fault.TheVariants.{TableLength, TableCell, OutOfRange, AssignmentRoom, Room, FileForm}
 use Rattle.model.specs.declared.Refusal.{Refusal}
-use Rattle.model.specs.declared.Checked.{Checked}
-use Rattle.model.specs.declared.Checked.TheVariants.{Fine, Bad}
-use Rattle.model.specs.Refusal.{Rule, checked, values, refused, tell, held}
+use Rattle.std.specs.Prelude.{Result, Ok, Err}
+use Rattle.model.specs.Refusal.{Rule, Checked, number_of, checked, values, refused, told_refusal, tell, told, single, flag, held}
 
 -- what turns a test of the code into the value of a rule's test
 pub ruleset tests = (rules, lt-ltb, le-ltb, le-leb, lt-leb, eq-eqb, ne_eqb)
 
-pub fine_not_bad : (c : Checked) (r : Refusal) → c ≡ Fine → c ≡ Bad r → ⊥
+pub fine_not_bad : (c : Checked) (r : Refusal) → c ≡ Ok tt → c ≡ Err r → ⊥
 fine_not_bad c r e f = let z : ◌≡◌ {A = ℕ} 0 1 = cc in omega arith
 
-pub values_refused : (vs : List ℕ) (r : Refusal) → values vs ≡ refused r → ⊥
-values_refused vs r e = let z : ◌≡◌ {A = ℕ} 0 1 = cc in omega arith
+pub values_refused : (vs : List ℕ) (number place : ℕ) → values vs ≡ refused number place → ⊥
+values_refused vs number place e = let z : ◌≡◌ {A = ℕ} 0 1 = cc in omega arith
+
+-- a number is that of one reason, so that what is told says which refusal it was
+abbrev faults : List Fault
+faults = Limit ∷ MatrixLength ∷ MatrixCell ∷ Unlogged ∷ AssignmentLength ∷ DomainNumber ∷ TableLength ∷ TableCell ∷ OutOfRange
+    ∷ AssignmentRoom ∷ Room ∷ FileForm ∷ []
+
+fault_back : (f : Fault) → get_or faults (number_of f - 1) Limit ≡ f
+fault_back Limit = refl
+fault_back MatrixLength = refl
+fault_back MatrixCell = refl
+fault_back Unlogged = refl
+fault_back AssignmentLength = refl
+fault_back DomainNumber = refl
+fault_back TableLength = refl
+fault_back TableCell = refl
+fault_back OutOfRange = refl
+fault_back AssignmentRoom = refl
+fault_back Room = refl
+fault_back FileForm = refl
+
+same_refusal : (r s : Refusal) → r.fault ≡ s.fault → r.place ≡ s.place → r ≡ s
+same_refusal r s f p = rw (f, p) refl
+
+pub refusal_told : (r s : Refusal) → told_refusal r ≡ told_refusal s → r ≡ s
+refusal_told r s e =
+    let n : number_of r.fault ≡ number_of s.fault = cc in
+    let p : r.place ≡ s.place = cc in
+    let f : r.fault ≡ s.fault = sym (fault_back r.fault) ∙ ap (λ x. get_or faults (x - 1) Limit) n ∙ fault_back s.fault in
+    same_refusal r s f p
 
 -- one rule in front
-pub checked_applies : (b : Bool) (r : Refusal) (c : Checked) → b ≡ true → cond b (Bad r) c ≡ Bad r
+pub checked_applies : (b : Bool) (r : Refusal) (c : Checked) → b ≡ true → cond b (Err r) c ≡ Err r
 checked_applies b r c e = rw e
 
-pub checked_passes : (b : Bool) (r : Refusal) (c : Checked) → b ≡ false → cond b (Bad r) c ≡ c
+pub checked_passes : (b : Bool) (r : Refusal) (c : Checked) → b ≡ false → cond b (Err r) c ≡ c
 checked_passes b r c e = rw e
 
 -- a list of rules finds nothing only where its first does not apply and the later ones find nothing
-pub checked_fine : (b : Bool) (r : Refusal) (c : Checked) → cond b (Bad r) c ≡ Fine → (b ≡ false) × (c ≡ Fine)
+pub checked_fine : (b : Bool) (r : Refusal) (c : Checked) → cond b (Err r) c ≡ Ok tt → (b ≡ false) × (c ≡ Ok tt)
 checked_fine true r c e = let z : ◌≡◌ {A = ℕ} 0 1 = cc in absurd (omega arith)
 checked_fine false r c e = (refl, e)
 
 -- a group in front
-pub group_fine : (rs qs : List Rule) → checked rs ≡ Fine → checked (rs ++ qs) ≡ checked qs
+pub group_fine : (rs qs : List Rule) → checked rs ≡ Ok tt → checked (rs ++ qs) ≡ checked qs
 group_fine [] qs e = refl
 group_fine (r ∷ rs) qs e =
     let f = checked_fine r.applies r.gives (checked rs) e in
     checked_passes r.applies r.gives (checked (rs ++ qs)) f.0 ∙ group_fine rs qs f.1
 
-pub group_bad : (rs qs : List Rule) (r : Refusal) → checked rs ≡ Bad r → checked (rs ++ qs) ≡ Bad r
-group_bad [] qs r e = absurd (fine_not_bad Fine r refl e)
+pub group_bad : (rs qs : List Rule) (r : Refusal) → checked rs ≡ Err r → checked (rs ++ qs) ≡ Err r
+group_bad [] qs r e = absurd (fine_not_bad (Ok tt) r refl e)
 group_bad (s ∷ rs) qs r e = go s.applies (λ f. group_bad rs qs r f) e
   where
-    go : (b : Bool) → (checked rs ≡ Bad r → checked (rs ++ qs) ≡ Bad r)
-        → cond b (Bad s.gives) (checked rs) ≡ Bad r → cond b (Bad s.gives) (checked (rs ++ qs)) ≡ Bad r
+    go : (b : Bool) → (checked rs ≡ Err r → checked (rs ++ qs) ≡ Err r)
+        → cond b (Err s.gives) (checked rs) ≡ Err r → cond b (Err s.gives) (checked (rs ++ qs)) ≡ Err r
     go true ih f = f
     go false ih f = ih f
 
 -- both find nothing where their join finds nothing
-pub groups_fine : (rs qs : List Rule) → checked (rs ++ qs) ≡ Fine → (checked rs ≡ Fine) × (checked qs ≡ Fine)
+pub groups_fine : (rs qs : List Rule) → checked (rs ++ qs) ≡ Ok tt → (checked rs ≡ Ok tt) × (checked qs ≡ Ok tt)
 groups_fine [] qs e = (refl, e)
 groups_fine (r ∷ rs) qs e =
     let f = checked_fine r.applies r.gives (checked (rs ++ qs)) e in
@@ -60,14 +91,14 @@ groups_fine (r ∷ rs) qs e =
 
 -- ---- what an answer tells, and what a buffer holds, once it is known what the rules find
 
-module _ (c : Checked) (r : Refusal) (e : c ≡ Bad r) where
-  pub tell_bad : (vs : List ℕ) → refused r ≡ tell c vs
+module _ (c : Checked) (r : Refusal) (e : c ≡ Err r) where
+  pub tell_bad : (vs : List ℕ) → told_refusal r ≡ tell c vs
   tell_bad vs = rw e
 
   pub held_bad : (new old : List ℕ) → old ≡ held c new old
   held_bad new old = rw e
 
-module _ (c : Checked) (e : c ≡ Fine) where
+module _ (c : Checked) (e : c ≡ Ok tt) where
   pub tell_fine : (vs : List ℕ) → values vs ≡ tell c vs
   tell_fine vs = rw e
 
@@ -75,13 +106,30 @@ module _ (c : Checked) (e : c ≡ Fine) where
   held_fine new old size q = rw (e, q)
 
 -- and what is told shows what the rules found
-pub told_fine : (c : Checked) (vs ws : List ℕ) → values vs ≡ tell c ws → (c ≡ Fine) × (vs ≡ ws)
-told_fine Fine vs ws e = (refl, cc)
-told_fine (Bad r) vs ws e = absurd (values_refused vs r e)
+pub told_fine : (c : Checked) (vs ws : List ℕ) → values vs ≡ tell c ws → (c ≡ Ok tt) × (vs ≡ ws)
+told_fine (Ok _) vs ws e = (refl, cc)
+told_fine (Err r) vs ws e = absurd (values_refused vs _ _ e)
 
-pub told_bad : (c : Checked) (r : Refusal) (ws : List ℕ) → refused r ≡ tell c ws → c ≡ Bad r
-told_bad Fine r ws e = absurd (values_refused ws r (sym e))
-told_bad (Bad s) r ws e = let q : s ≡ r = cc in ap Bad q
+pub told_bad : (c : Checked) (r : Refusal) (ws : List ℕ) → told_refusal r ≡ tell c ws → c ≡ Err r
+told_bad (Ok _) r ws e = absurd (values_refused ws _ _ (sym e))
+told_bad (Err s) r ws e = ap Err (sym (refusal_told r s e))
+
+-- ---- answers that tell the same are the same, where values are those of one answer
+
+pub told_apart : {A : Type 0} (f : A → List ℕ) → ((x y : A) → f x ≡ f y → x ≡ y) → (r q : Result A Refusal) → told f r ≡ told f q → r ≡ q
+told_apart f one (Ok x) (Ok y) e = let g : f x ≡ f y = cc in ap Ok (one x y g)
+told_apart f one (Ok x) (Err s) e = absurd (values_refused (f x) _ _ e)
+told_apart f one (Err r) (Ok y) e = absurd (values_refused (f y) _ _ (sym e))
+told_apart f one (Err r) (Err s) e = ap Err (refusal_told r s e)
+
+pub flag_one : (b c : Bool) → flag b ≡ flag c → b ≡ c
+flag_one true true e = refl
+flag_one true false e = let z : ◌≡◌ {A = ℕ} 0 1 = cc in absurd (omega arith)
+flag_one false true e = let z : ◌≡◌ {A = ℕ} 0 1 = cc in absurd (omega arith)
+flag_one false false e = refl
+
+pub single_one : (x y : ℕ) → single x ≡ single y → x ≡ y
+single_one x y e = cc
 
 -- ---- what every refusal of a list has
 
@@ -90,15 +138,15 @@ abbrev pub Gives : (Refusal → Type 0) → List Rule → Type 0
 Gives S [] = Unit {0}
 Gives S (r ∷ rs) = (r.applies ≡ true → S r.gives) × (r.applies ≡ false → Gives S rs)
 
-pub gives_bad : (S : Refusal → Type 0) (rs : List Rule) → Gives S rs → (r : Refusal) → checked rs ≡ Bad r → S r
-gives_bad S [] g r e = absurd (fine_not_bad Fine r refl e)
+pub gives_bad : (S : Refusal → Type 0) (rs : List Rule) → Gives S rs → (r : Refusal) → checked rs ≡ Err r → S r
+gives_bad S [] g r e = absurd (fine_not_bad (Ok tt) r refl e)
 gives_bad S (s ∷ rs) g r e = go s.applies refl (λ h f. gives_bad S rs h r f) e
   where
-    go : (b : Bool) → s.applies ≡ b → (Gives S rs → checked rs ≡ Bad r → S r) → cond b (Bad s.gives) (checked rs) ≡ Bad r → S r
+    go : (b : Bool) → s.applies ≡ b → (Gives S rs → checked rs ≡ Err r → S r) → cond b (Err s.gives) (checked rs) ≡ Err r → S r
     go true q ih f = subst S (cc) (g.0 q)
     go false q ih f = ih (g.1 q) f
 
-pub gives_group : (S : Refusal → Type 0) (rs qs : List Rule) → Gives S rs → (checked rs ≡ Fine → Gives S qs) → Gives S (rs ++ qs)
+pub gives_group : (S : Refusal → Type 0) (rs qs : List Rule) → Gives S rs → (checked rs ≡ Ok tt → Gives S qs) → Gives S (rs ++ qs)
 gives_group S [] qs g h = h refl
 gives_group S (r ∷ rs) qs g h =
     (g.0, λ e. gives_group S rs qs (g.1 e) (λ f. h (checked_passes r.applies r.gives (checked rs) e ∙ f)))

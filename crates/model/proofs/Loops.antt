@@ -16,14 +16,6 @@ use Rattle.model.proofs.Below.{below_suc, all_at, first_is, first_none, first_be
 
 -- ---- every one passes
 
-pub all_none : (p : ℕ → Bool) → all 0 p ≡ true
-unfolding all
-all_none p = refl
-
-pub all_next : (i : ℕ) (p : ℕ → Bool) → all i p ≡ true → p i ≡ true → all (i + 1) p ≡ true
-unfolding all
-all_next i p e f = rw (add-one, f) e
-
 pub all_fails : (n i : ℕ) (p : ℕ → Bool) → i < n → p i ≡ false → all n p ≡ false
 all_fails n i p h e = false_of (all n p) (λ t. subst T e (all_at n p t i h))
 
@@ -94,12 +86,6 @@ filled_next i f l h =
 pub record Grown (f : ℕ → ℕ) (t₀ : List ℕ) (i₀ : ℕ) (t : List ℕ) (i : ℕ) : Type 0 where
   pub long : length t ≡ length t₀
   pub fills : (l : List ℕ) → t₀ ≡ filled i₀ f l → t ≡ filled i f l
-
-pub grown_none : (f : ℕ → ℕ) (t : List ℕ) (i : ℕ) → Grown f t i t i
-grown_none f t i = record { long = refl; fills = λ l e. e }
-
-pub grown_on : {f : ℕ → ℕ} {t₀ t₁ t₂ : List ℕ} {i₀ i₁ i₂ : ℕ} → Grown f t₀ i₀ t₁ i₁ → Grown f t₁ i₁ t₂ i₂ → Grown f t₀ i₀ t₂ i₂
-grown_on g h = record { long = h.long ∙ g.long; fills = λ l e. h.fills l (g.fills l e) }
 
 pub grown_next : (f : ℕ → ℕ) (t₀ : List ℕ) (i₀ : ℕ) (t : List ℕ) (i x : ℕ) → Grown f t₀ i₀ t i → i < length t → x ≡ f i
     → Grown f t₀ i₀ (set t i x) (i + 1)

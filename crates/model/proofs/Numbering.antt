@@ -101,9 +101,6 @@ module _ (n : ℕ) (e : ℕ → ℕ → Bool) (of₀ low₀ : List ℕ) where
           let m : c < classes n e = omega (arith, N.next, few n e E u h) in
           rw (N.members, filled_at d (member_of n e) low₀ c l) (member_low n e E c m)
 
-      pub class_under : class_of n e u ≤ d
-      class_under = omega (arith, N.next, class_le n e E u h)
-
       -- the search among the members finds the number of u's class
       pub search_class : (p : ℕ) → p ≡ first d (λ c. e u (get_or low c 0)) → p ≡ class_of n e u
       search_class p q =

@@ -44,9 +44,6 @@ module _ (n k : ℕ) (m : List ℕ) where
   pub row_length : (u : ℕ) → Inside k n u (length m) → length (row_of n k m u) ≡ k * n
   row_length u I = length-take-le (k * n) (drop (u * (k * n)) m) (rw length-drop (omega (arith, I.ends)))
 
-  pub passed_length : (u : ℕ) → Inside k n u (length m) → length (passed n k m u) ≡ k * n
-  passed_length u I = ap length (row_part u) ∙ row_length u I
-
 -- and the row's cells are the matrix's
 pub row_at : (n k : ℕ) (m : List ℕ) (u a x : ℕ) → a < k → x < n → get_or (row_of n k m u) (a * n + x) 0 ≡ cell k n m u a x
 unfolding cell

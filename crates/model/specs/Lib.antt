@@ -7,3 +7,4 @@ pub mod Built
 pub mod Clash
 pub mod Refusal
 pub mod Rules
+pub mod Laid

@@ -1,17 +1,49 @@
-// What several crates answer with. The definitions stand in specs/, their laws in proofs/; this crate has no code.
+// What several crates take or answer with. The definitions stand in specs/, their laws in proofs/.
 
 #![tactic(auto)]
 
-// A refusal's number and place (01, "Numbers of refusal"). Only `scan` makes one.
-#[derive(Drop)]
+ghost use Rattle.model.specs.Matrix.{Laid};
+
+// Why a call refuses, by its number (01, "Numbers of refusal").
+#[derive(Clone, Copy, Debug, PartialEq, Eq)]
+pub enum Fault {
+    Limit = 1,
+    MatrixLength = 2,
+    MatrixCell = 3,
+    Unlogged = 4,
+    AssignmentLength = 5,
+    DomainNumber = 6,
+    TableLength = 7,
+    TableCell = 8,
+    OutOfRange = 9,
+    AssignmentRoom = 10,
+    Room = 11,
+    FileForm = 12,
+}
+
+impl Fault {
+    ghost use Rattle.std.specs.Prelude.{◌≡◌};
+    ghost use Rattle.model.specs.Refusal.{number_of};
+
+    pub fn number(self) -> usize
+        ensures { result ≡ number_of self }
+    {
+        self as usize
+    }
+}
+
+// A refusal: why, and the place. Only `scan` makes one.
+#[derive(Clone, Copy, Debug, PartialEq, Eq)]
 pub struct Refusal {
-    pub number: usize,
+    pub fault: Fault,
     pub place: usize,
 }
 
-// What a test of arguments finds.
-#[derive(Drop)]
-pub enum Checked {
-    Fine,
-    Bad(Refusal),
+// A matrix within the limits: n entities, k rights, and the cells in their order.
+#[derive(Clone, Copy)]
+pub struct Matrix<'a> {
+    pub n: usize,
+    pub k: usize,
+    pub cells: &'a [u8],
+    ghost laid: { Laid n k cells.now },
 }

@@ -5,9 +5,7 @@
 
 ghost use Rattle.io.specs.Counts.{IsPrefixLen};
 
-use alike::Compared;
-use build::Built;
-use judge::Judged;
+use judge::Verdict;
 use model::Refusal;
 
 fn main() {
@@ -81,10 +79,10 @@ fn limits_shown(n: usize, k: usize) {
     show_left(&assignment, &table);
 }
 
-fn show_built(built: Built) {
+fn show_built(built: Result<usize, Refusal>) {
     match built {
-        Built::Domains(d) => show_count(b"d ", d),
-        Built::Refused(r) => show_refusal(r),
+        Ok(d) => show_count(b"d ", d),
+        Err(r) => show_refusal(r),
     }
 }
 
@@ -120,14 +118,14 @@ fn judge_shown(name: &[u8], d: usize, assignment_text: &[u8], table_text: &[u8])
     say(b"\n");
 }
 
-fn show_judged(judged: Judged) {
+fn show_judged(judged: Result<Verdict, Refusal>) {
     match judged {
-        Judged::Enforces(d) => show_count(b"enforces, d ", d),
-        Judged::Conflict { cell, logged } => {
+        Ok(Verdict::Enforces(d)) => show_count(b"enforces, d ", d),
+        Ok(Verdict::Conflict { cell, logged }) => {
             show_count(b"conflict at cell ", cell);
             show_count(b", logged ", logged as usize);
         }
-        Judged::Refused(r) => show_refusal(r),
+        Err(r) => show_refusal(r),
     }
 }
 
@@ -143,11 +141,11 @@ fn alike_shown(name: &[u8], n: usize, v: usize, text: &[u8]) {
     say(b"\n");
 }
 
-fn show_compared(compared: Compared) {
+fn show_compared(compared: Result<bool, Refusal>) {
     match compared {
-        Compared::Yes => say(b"yes"),
-        Compared::No => say(b"no"),
-        Compared::Refused(r) => show_refusal(r),
+        Ok(true) => say(b"yes"),
+        Ok(false) => say(b"no"),
+        Err(r) => show_refusal(r),
     }
 }
 
@@ -155,15 +153,11 @@ fn show_compared(compared: Compared) {
 fn read_cells(text: &[u8], cells: &mut [u8]) -> usize
     ensures { IsPrefixLen result cells.new }
 {
-    let mut i = 0;
-    while i < text.len() {
-        if cells.len() <= i {
-            return i;
-        }
+    let size = text.len().min(cells.len());
+    for i in 0..size {
         cells[i] = cell_of(text[i]);
-        i += 1;
     }
-    i
+    size
 }
 
 fn cell_of(character: u8) -> u8 {
@@ -177,17 +171,13 @@ fn cell_of(character: u8) -> u8 {
 }
 
 fn show_refusal(r: Refusal) {
-    let number = r.number;
-    let place = r.place;
-    show_count(b"refused ", number);
-    show_count(b", place ", place);
+    show_count(b"refused ", r.fault.number());
+    show_count(b", place ", r.place);
 }
 
 fn show_cells(cells: &[u8]) {
-    let mut i = 0;
-    while i < cells.len() {
-        show_number(cells[i] as usize);
-        i += 1;
+    for cell in cells {
+        show_number(*cell as usize);
     }
 }
 

@@ -1,51 +1,54 @@
--- The exits of the two checks: a reader of a piece that fell short has found the place, and one that came to its end leaves the rest of
--- the file to the next. Assumes nothing.
-use mathlib.Core.Path.{◌≡◌, sym, subst}
+-- The exits of the two readers: where a piece does not fit its place is the file's, and behind a piece that is there the rest of the file is
+-- left to the next. Assumes nothing.
+use mathlib.Core.Path.{◌≡◌, refl, sym, ◌∙◌}
 use mathlib.Core.Bool.{cond}
 use mathlib.Core.List.{List, [], ◌∷◌}
-use Prim.Native.Nat.{ℕ, ◌+◌, ◌*◌, ◌≤◌, ◌<◌}
+use Prim.Native.Nat.{ℕ, ◌+◌, ◌*◌}
 use native.Mathlib.Omega.{arith}
 use lib.Dec.{eqb}
-use lib.ListN.{length, drop}
 use Rattle.layout.specs.Text.{MX, RW, PD, AS, TB}
-use Rattle.layout.specs.Layout.{Layout, end, reach, Stops, Piece, Value, Sizes, PolicySizes, text, number, numbers, records, close}
+use Rattle.layout.specs.Layout.{Layout, reach, text, number, numbers, sizes, records, close}
 use Rattle.layout.specs.Layout.{matrix_layout, policy_sizes, assigned, policy_layout}
-use Rattle.layout.proofs.Stops.{stop, on, piece_within, value_within, fell_short, came_whole}
+use Rattle.readers.specs.declared.Reader.{Reader}
+use Rattle.readers.specs.Pieces.{ahead, Whole, Misfit}
+use Rattle.readers.proofs.Steps.{behind}
 
-pub sized_inside : {s mark : List ℕ} {n k r : ℕ} → Sizes s r mark n k → r ≤ length s
-sized_inside z = (z.stops (λ _ _. end)).inside
+-- the line feed
+abbrev feed : Layout → Layout
+feed F = text (10 ∷ []) F
+
+-- a reader at the file's first byte has the whole file before it
+from_start : (r : Reader) {s : List ℕ} (A : Layout) → r.file.now ≡ s → r.at ≡ 0 → reach A s ≡ ahead r A
+from_start r A e z = rw (e, z) (omega arith)
 
 -- ---- the matrix file
 
-module _ (s : List ℕ) (n k sized : ℕ) (z : Sizes s sized MX n k) where
-  pub matrix_sized : sized < 5 → sized ≡ reach matrix_layout s
+-- what is to follow the sizes
+abbrev rows : ℕ → ℕ → Layout
+rows n k = feed (records RW 3 (k * n) n close)
+
+module _ {s : List ℕ} {r : Reader} (e : r.file.now ≡ s) (z : r.at ≡ 0) where
+  pub matrix_unsized : {p : ℕ} → Misfit r 5 p (sizes MX) → p ≡ reach matrix_layout s
   unfolding matrix_layout
-  matrix_sized h = fell_short (z.stops (λ n k. text (10 ∷ []) (records RW 3 (k * n) n close))) h
+  matrix_unsized f = sym (from_start r (sizes MX rows) e z ∙ f.stops rows)
 
-  module _ (h : 5 ≤ sized) (headed : ℕ) (p : Piece s 5 6 headed (text (10 ∷ []))) where
-    to_records : Stops s 0 6 headed matrix_layout (records RW 3 (k * n) n close)
+  module _ {r₁ : Reader} {n k : ℕ} (p₁ : Whole r r₁ 5 (sizes MX) (λ F. F n k)) where
+    to_feed : reach matrix_layout s ≡ ahead r₁ (rows n k)
     unfolding matrix_layout
-    to_records =
-        let q = z.stops (λ n k. text (10 ∷ []) (records RW 3 (k * n) n close)) in
-        let e : sized ≡ 5 = omega (arith, q.within) in
-        let rest : Layout = records RW 3 (k * n) n close in
-        on q h (subst (λ (i : ℕ). Stops s i 6 headed (text (10 ∷ []) rest) rest) (sym e) (p rest))
+    to_feed = from_start r (sizes MX rows) e z ∙ p₁.goes rows
 
-    pub matrix_headed : headed < 6 → headed ≡ reach matrix_layout s
-    matrix_headed l = fell_short to_records l
+    pub matrix_unheaded : {p : ℕ} → Misfit r₁ 1 p (text (10 ∷ [])) → p ≡ reach matrix_layout s
+    matrix_unheaded f = sym (to_feed ∙ f.stops (records RW 3 (k * n) n close))
 
-    module _ (l : 6 ≤ headed) (filled : ℕ) (q : Piece s 6 (6 + n * (k * n + 5)) filled (records RW 3 (k * n) n)) where
-      to_close : Stops s 0 (6 + n * (k * n + 5)) filled matrix_layout close
-      to_close =
-          let e : headed ≡ 6 = omega (arith, to_records.within) in
-          on to_records l (subst (λ (i : ℕ). Stops s i (6 + n * (k * n + 5)) filled (records RW 3 (k * n) n close) close) (sym e) (q close))
+    module _ {r₂ : Reader} (p₂ : Whole r₁ r₂ 1 (text (10 ∷ [])) (λ F. F)) where
+      to_rows : reach matrix_layout s ≡ ahead r₂ (records RW 3 (k * n) n close)
+      to_rows = to_feed ∙ p₂.goes (records RW 3 (k * n) n close)
 
-      pub matrix_filled : filled < 6 + n * (k * n + 5) → filled ≡ reach matrix_layout s
-      matrix_filled g = fell_short to_close g
+      pub matrix_unfilled : {w p : ℕ} → Misfit r₂ w p (records RW 3 (k * n) n) → p ≡ reach matrix_layout s
+      matrix_unfilled f = sym (to_rows ∙ f.stops close)
 
-      pub matrix_closed : (r : ℕ) → 6 + n * (k * n + 5) ≤ filled → r ≡ 6 + n * (k * n + 5) + reach close (drop (6 + n * (k * n + 5)) s)
-          → r ≡ reach matrix_layout s
-      matrix_closed r g c = came_whole to_close g c
+      pub matrix_filled : {r₃ : Reader} {w : ℕ} → Whole r₂ r₃ w (records RW 3 (k * n) n) (λ F. F) → ahead r₃ close ≡ reach matrix_layout s
+      matrix_filled p₃ = sym (to_rows ∙ p₃.goes close)
 
 -- ---- the policy file: its first line
 
@@ -53,106 +56,85 @@ module _ (s : List ℕ) (n k sized : ℕ) (z : Sizes s sized MX n k) where
 abbrev fewest : ℕ → ℕ
 fewest n = cond (eqb n 0) 0 1
 
-module _ (s : List ℕ) (n k sized : ℕ) (z : Sizes s sized PD n k) where
-  -- what is to follow the sizes
-  behind : (ℕ → ℕ → ℕ → Layout) → ℕ → ℕ → Layout
-  behind F n k = number (fewest n) 65 (λ d. text (10 ∷ []) (F n k d))
+-- what is to follow the sizes
+abbrev domains : (ℕ → ℕ → ℕ → Layout) → ℕ → ℕ → Layout
+domains F n k = number (fewest n) 65 (λ d. feed (F n k d))
 
-  pub head_sized : (d : ℕ) → sized < 5 → PolicySizes s sized n k d
-  unfolding policy_sizes behind
-  head_sized d h = record {
-    stops = λ F. stop 8 (F n k d) (z.stops (behind F)) h (omega arith);
-    entities = λ l. omega arith;
-    rights = λ l. omega arith;
-    domains = λ l. omega arith;
-  }
+pub head_unsized : {r : Reader} {p : ℕ} → Misfit r 5 p (sizes PD) → Misfit r 8 p policy_sizes
+unfolding policy_sizes
+head_unsized f = behind domains refl f (omega arith) (λ F. refl)
 
-  module _ (h : 5 ≤ sized) (counted d : ℕ) (q : Value s 5 7 counted (number (fewest n) 65) (fewest n) 65 d) where
-    to_feed : (F : ℕ → ℕ → ℕ → Layout) → Stops s 0 7 counted (policy_sizes F) (text (10 ∷ []) (F n k d))
-    unfolding policy_sizes behind
-    to_feed F =
-        let p = z.stops (behind F) in
-        let e : sized ≡ 5 = omega (arith, p.within) in
-        on p h (subst (λ (i : ℕ). Stops s i 7 counted (behind F n k) (text (10 ∷ []) (F n k d))) (sym e) (q.stops (λ d. text (10 ∷ []) (F n k d))))
+module _ {r r₁ : Reader} {n k : ℕ} (e₁ : r₁.file.now ≡ r.file.now) (p₁ : Whole r r₁ 5 (sizes PD) (λ F. F n k)) where
+  to_domains : (F : ℕ → ℕ → ℕ → Layout) → ahead r (policy_sizes F) ≡ ahead r₁ (domains F n k)
+  unfolding policy_sizes
+  to_domains F = p₁.goes (domains F)
 
-    pub head_counted : counted < 7 → PolicySizes s counted n k d
-    head_counted l = record {
-      stops = λ F. stop 8 (F n k d) (to_feed F) l (omega arith);
-      entities = λ g. omega arith;
-      rights = λ g. omega arith;
-      domains = λ g. omega arith;
+  pub head_uncounted : {p : ℕ} → Misfit r₁ 2 p (number (fewest n) 65) → Misfit r 8 p policy_sizes
+  head_uncounted f = behind (λ F d. feed (F n k d)) e₁ f (omega (arith, p₁.stands)) to_domains
+
+  module _ {r₂ : Reader} {d : ℕ} (e₂ : r₂.file.now ≡ r₁.file.now) (p₂ : Whole r₁ r₂ 2 (number (fewest n) 65) (λ F. F d)) where
+    to_head : (F : ℕ → ℕ → ℕ → Layout) → ahead r (policy_sizes F) ≡ ahead r₂ (feed (F n k d))
+    to_head F = to_domains F ∙ p₂.goes (λ d. feed (F n k d))
+
+    pub head_unended : {p : ℕ} → Misfit r₂ 1 p (text (10 ∷ [])) → Misfit r 8 p policy_sizes
+    head_unended f = behind (λ F. F n k d) (e₂ ∙ e₁) f (omega (arith, p₁.stands, p₂.stands)) to_head
+
+    pub head_whole : {r₃ : Reader} → Whole r₂ r₃ 1 (text (10 ∷ [])) (λ F. F) → Whole r r₃ 8 policy_sizes (λ F. F n k d)
+    head_whole p₃ = record {
+      stands = omega (arith, p₁.stands, p₂.stands, p₃.stands);
+      goes = λ F. to_head F ∙ p₃.goes (F n k d);
     }
-
-    pub head_whole : (r : ℕ) → 7 ≤ counted → Piece s 7 8 r (text (10 ∷ [])) → PolicySizes s r n k d
-    head_whole r l p =
-        let e : counted ≡ 7 = omega (arith, value_within q) in
-        record {
-          stops = λ F. on (to_feed F) l (subst (λ (i : ℕ). Stops s i 8 r (text (10 ∷ []) (F n k d)) (F n k d)) (sym e) (p (F n k d)));
-          entities = λ g. z.entities h;
-          rights = λ g. z.rights h;
-          domains = λ g. omega (arith, (q.range l).1);
-        }
 
 -- ---- its second line
 
-module _ (s : List ℕ) (d n marked : ℕ) (p : Piece s 8 10 marked (text AS)) where
-  pub assigned_marked : marked < 10 → Piece s 8 (11 + n * 2) marked (assigned d n)
+module _ (d n : ℕ) where
+  pub assigned_unmarked : {r : Reader} {p : ℕ} → Misfit r 2 p (text AS) → Misfit r (n * 2 + 3) p (assigned d n)
   unfolding assigned
-  assigned_marked h F = stop (11 + n * 2) F (p (numbers d n (text (10 ∷ []) F))) h (omega arith)
+  assigned_unmarked f = behind (λ F. numbers d n (feed F)) refl f (omega arith) (λ F. refl)
 
-  module _ (h : 10 ≤ marked) (named : ℕ) (q : Piece s 10 (10 + n * 2) named (numbers d n)) where
-    to_line : (F : Layout) → Stops s 8 (10 + n * 2) named (assigned d n F) (text (10 ∷ []) F)
+  module _ {r r₁ : Reader} (e₁ : r₁.file.now ≡ r.file.now) (p₁ : Whole r r₁ 2 (text AS) (λ F. F)) where
+    to_numbers : (F : Layout) → ahead r (assigned d n F) ≡ ahead r₁ (numbers d n (feed F))
     unfolding assigned
-    to_line F =
-        let e : marked ≡ 10 = omega (arith, piece_within p) in
-        let rest : Layout = text (10 ∷ []) F in
-        on (p (numbers d n rest)) h (subst (λ (i : ℕ). Stops s i (10 + n * 2) named (numbers d n rest) rest) (sym e) (q rest))
+    to_numbers F = p₁.goes (numbers d n (feed F))
 
-    pub assigned_named : named < 10 + n * 2 → Piece s 8 (11 + n * 2) named (assigned d n)
-    assigned_named l F = stop (11 + n * 2) F (to_line F) l (omega arith)
+    pub assigned_unnamed : {p : ℕ} → Misfit r₁ (n * 2) p (numbers d n) → Misfit r (n * 2 + 3) p (assigned d n)
+    assigned_unnamed f = behind feed e₁ f (omega (arith, p₁.stands)) to_numbers
 
-    pub assigned_whole : (r : ℕ) → 10 + n * 2 ≤ named → Piece s (10 + n * 2) (10 + n * 2 + 1) r (text (10 ∷ [])) → Piece s 8 (11 + n * 2) r (assigned d n)
-    assigned_whole r l g F =
-        let e : named ≡ 10 + n * 2 = omega (arith, piece_within q) in
-        let f : 10 + n * 2 + 1 ≡ 11 + n * 2 = omega arith in
-        on (to_line F) l (subst (λ (i : ℕ). Stops s i (11 + n * 2) r (text (10 ∷ []) F) F) (sym e)
-        (subst (λ (i : ℕ). Stops s (10 + n * 2) i r (text (10 ∷ []) F) F) f (g F)))
+    module _ {r₂ : Reader} (e₂ : r₂.file.now ≡ r₁.file.now) (p₂ : Whole r₁ r₂ (n * 2) (numbers d n) (λ F. F)) where
+      pub assigned_unended : {p : ℕ} → Misfit r₂ 1 p (text (10 ∷ [])) → Misfit r (n * 2 + 3) p (assigned d n)
+      assigned_unended f = behind (λ F. F) (e₂ ∙ e₁) f (omega (arith, p₁.stands, p₂.stands)) (λ F. to_numbers F ∙ p₂.goes (feed F))
+
+      pub assigned_whole : {r₃ : Reader} → Whole r₂ r₃ 1 (text (10 ∷ [])) (λ F. F) → Whole r r₃ (n * 2 + 3) (assigned d n) (λ F. F)
+      assigned_whole p₃ = record {
+        stands = omega (arith, p₁.stands, p₂.stands, p₃.stands);
+        goes = λ F. to_numbers F ∙ p₂.goes (feed F) ∙ p₃.goes F;
+      }
 
 -- ---- the whole of it
 
-module _ (s : List ℕ) (n k d headed : ℕ) (z : PolicySizes s headed n k d) where
-  body : ℕ → ℕ → ℕ → Layout
-  body n k d = assigned d n (records TB 2 (k * d) d close)
+-- what is to follow the first line
+abbrev body : ℕ → ℕ → ℕ → Layout
+body n k d = assigned d n (records TB 2 (k * d) d close)
 
-  pub headed_inside : headed ≤ length s
-  headed_inside = (z.stops (λ _ _ _. end)).inside
+module _ {s : List ℕ} {r : Reader} (e : r.file.now ≡ s) (z : r.at ≡ 0) where
+  pub policy_unheaded : {p : ℕ} → Misfit r 8 p policy_sizes → p ≡ reach policy_layout s
+  unfolding policy_layout
+  policy_unheaded f = sym (from_start r (policy_sizes body) e z ∙ f.stops body)
 
-  pub policy_headed : headed < 8 → headed ≡ reach policy_layout s
-  unfolding policy_layout body
-  policy_headed h = fell_short (z.stops body) h
+  module _ {r₁ : Reader} {n k d : ℕ} (p₁ : Whole r r₁ 8 policy_sizes (λ F. F n k d)) where
+    to_assigned : reach policy_layout s ≡ ahead r₁ (body n k d)
+    unfolding policy_layout
+    to_assigned = from_start r (policy_sizes body) e z ∙ p₁.goes body
 
-  module _ (h : 8 ≤ headed) (named : ℕ) (p : Piece s 8 (11 + n * 2) named (assigned d n)) where
-    to_table : Stops s 0 (11 + n * 2) named policy_layout (records TB 2 (k * d) d close)
-    unfolding policy_layout body
-    to_table =
-        let q = z.stops body in
-        let e : headed ≡ 8 = omega (arith, q.within) in
-        let rest : Layout = records TB 2 (k * d) d close in
-        on q h (subst (λ (i : ℕ). Stops s i (11 + n * 2) named (assigned d n rest) rest) (sym e) (p rest))
+    pub policy_unnamed : {w p : ℕ} → Misfit r₁ w p (assigned d n) → p ≡ reach policy_layout s
+    policy_unnamed f = sym (to_assigned ∙ f.stops (records TB 2 (k * d) d close))
 
-    pub policy_named : named < 11 + n * 2 → named ≡ reach policy_layout s
-    policy_named l = fell_short to_table l
+    module _ {r₂ : Reader} {w : ℕ} (p₂ : Whole r₁ r₂ w (assigned d n) (λ F. F)) where
+      to_table : reach policy_layout s ≡ ahead r₂ (records TB 2 (k * d) d close)
+      to_table = to_assigned ∙ p₂.goes (records TB 2 (k * d) d close)
 
-    module _ (l : 11 + n * 2 ≤ named) (filled last : ℕ) (is : last ≡ 11 + n * 2 + d * (k * d + 5))
-        (q : Piece s (11 + n * 2) (11 + n * 2 + d * (k * d + 5)) filled (records TB 2 (k * d) d)) where
-      to_close' : Stops s 0 last filled policy_layout close
-      to_close' =
-          let e : named ≡ 11 + n * 2 = omega (arith, to_table.within) in
-          on to_table l (subst (λ (i : ℕ). Stops s i last filled (records TB 2 (k * d) d close) close) (sym e)
-          (subst (λ (i : ℕ). Stops s (11 + n * 2) i filled (records TB 2 (k * d) d close) close) (sym is) (q close)))
+      pub policy_unfilled : {v p : ℕ} → Misfit r₂ v p (records TB 2 (k * d) d) → p ≡ reach policy_layout s
+      policy_unfilled f = sym (to_table ∙ f.stops close)
 
-      pub policy_filled : filled < last → filled ≡ reach policy_layout s
-      policy_filled g = fell_short to_close' g
-
-      pub policy_closed : (r : ℕ) → last ≤ filled → r ≡ last + reach close (drop last s) → r ≡ reach policy_layout s
-      policy_closed r g c = came_whole to_close' g c
+      pub policy_filled : {r₃ : Reader} {v : ℕ} → Whole r₂ r₃ v (records TB 2 (k * d) d) (λ F. F) → ahead r₃ close ≡ reach policy_layout s
+      policy_filled p₃ = sym (to_table ∙ p₃.goes close)

@@ -1,11 +1,12 @@
--- Where a reader of a text, of cells, of a digit and of a number of two digits stops. Assumes nothing.
+-- How far a file fits at each exit of a reader of a text, of cells, of a digit and of a number of two digits. Assumes nothing.
 use mathlib.Core.Path.{◌≡◌, refl, sym, ap, ◌∙◌, subst}
 use mathlib.Core.Bool.{Bool, true, false, ◌&&◌}
 use mathlib.Core.List.{List, [], ◌∷◌}
-use Prim.Native.Nat.{ℕ, zero, suc, ◌+◌, ◌-◌, ◌*◌, ◌≤◌, ◌<◌}
+use Prim.Native.Nat.{ℕ, zero, suc, ◌+◌, ◌-◌, ◌*◌, ◌≤◌, ◌<◌, min}
 use native.Mathlib.Nat.{le_refl}
 use native.Mathlib.Decide.{dec_lt}
 use native.Mathlib.Omega.{arith}
+use native.Mathlib.Numerals.{add-one}
 use borrow.Author.Tests.{lt-ltb, le-ltb, le-leb, eq-eqb, ne_eqb, leb-false}
 use lib.Dec.{T, eqb, leb, ltb, leb→le, ltb→lt}
 use lib.ListN.{length, get_or}
@@ -13,10 +14,11 @@ use Rattle.model.specs.Below.{any}
 use Rattle.model.proofs.Tests.{false_of}
 use Rattle.model.proofs.Below.{any_at}
 use Rattle.model.proofs.Slices.{part, part_length, part_at}
-use Rattle.layout.specs.Layout.{Layout, end, byte, Stops, Piece, Value, times, text, cells, digit, number}
-use Rattle.layout.specs.Layout.{digit_of, cell_of, digit_at, number_at, ten_test, unit_test}
-use Rattle.layout.proofs.Stops.{byte_out, byte_off, byte_on, stop, on}
-use Rattle.layout.proofs.Stops.{Passed, passed_none, passed_inside, passed_next, passed_short, passed_all}
+use Rattle.layout.specs.Layout.{Layout, byte, times, text, cells, digit, number}
+use Rattle.layout.specs.Layout.{digit_of, cell_of, digit_at, ten_test, unit_test}
+use Rattle.readers.specs.declared.Reader.{Reader}
+use Rattle.readers.specs.Pieces.{place, ahead, Whole, Misfit}
+use Rattle.readers.proofs.Steps.{byte_out, byte_off, byte_on, Goes, times_none, times_on, times_off, read_on, read_off}
 
 -- ---- pieces of one byte each: a text byte by byte, cells
 
@@ -38,70 +40,110 @@ unfolding text times
 text_letters [] F = refl
 text_letters (b ∷ t) F = ap (λ R. byte (eqb b) (λ _. R)) (text_letters t F) ∙ sym (times_first (length t) (letter (b ∷ t)) F)
 
--- the first i bytes of t stand from `at` on
-pub text_none : (t s : List ℕ) (at : ℕ) → at ≤ length s → Passed s at 1 (letter t) 0 (at + 0)
-text_none t s at l = let z : at + 0 ≡ at = omega arith in rw z (passed_none l)
+-- a reader of the text t has read i of its bytes
+abbrev pub Letters : Reader → Reader → List ℕ → ℕ → Type 0
+Letters r q t i = Whole r q (i * 1) (times i (letter t)) (λ F. F)
 
-module _ (t : List ℕ) {s : List ℕ} {at i : ℕ} (g : Passed s at 1 (letter t) i (at + i)) where
-  pub text_out : i < length t → length s ≤ at + i → Piece s at (at + length t) (at + i) (text t)
-  text_out h l F = rw (text_letters t F) (passed_short g (λ R. byte_out _ _ R s (at + i) (omega (arith, passed_inside g))) _ _ (omega arith) h (omega arith) F)
+module _ {r q : Reader} (t : List ℕ) (i : ℕ) (g : Letters r q t i) where
+  pub text_all : i ≡ length t → Whole r q (length t) (text t) (λ F. F)
+  text_all h = record {
+    stands = omega (arith, g.stands);
+    goes = λ F. rw (text_letters t F, ← h) (g.goes F);
+  }
 
-  pub text_off : i < length t → at + i < length s → (get_or s (at + i) 0 ≡ get_or t i 0 → ⊥) → Piece s at (at + length t) (at + i) (text t)
-  text_off h l d F =
-      rw (text_letters t F) (passed_short g (λ R. byte_off _ _ R s (at + i) l (ne_eqb _ _ (λ q. d (sym q)))) _ _ (omega arith) h (omega arith) F)
+  pub text_on : {q' : Reader} → q'.file.now ≡ q.file.now → q'.at ≡ q.at + 1 → q.at < length q.file.now
+      → get_or q.file.now q.at 0 ≡ get_or t i 0 → Letters r q' t (i + 1)
+  text_on e a h d = read_on (letter t) g record {
+    stands = a;
+    goes = λ F. rw (e, a) (byte_on _ _ q.file.now q.at h (eq-eqb _ _ (sym d)));
+  }
 
-  pub text_on : at + i < length s → get_or s (at + i) 0 ≡ get_or t i 0 → Passed s at 1 (letter t) (i + 1) (at + (i + 1))
-  text_on l e =
-      let place : at + i + 1 ≡ at + (i + 1) = omega arith in
-      rw place at (passed_next g (λ R. byte_on _ _ s (at + i) l (eq-eqb _ _ (sym e))) (omega arith))
+  module _ (e : q.file.now ≡ r.file.now) (l : i < length t) where
+    off : Misfit q 1 q.at (letter t i) → Misfit r (length t) q.at (text t)
+    off f = let h = read_off (letter t) g (length t) e l f in record {
+      short = omega (arith, h.short);
+      inside = h.inside;
+      stops = λ F. rw (text_letters t F) (h.stops F);
+    }
 
-  pub text_all : i ≡ length t → Piece s at (at + length t) (at + i) (text t)
-  text_all h F = rw (text_letters t F) (passed_all _ _ g h (omega arith) F)
+    pub text_out : q.at ≡ length q.file.now → Misfit r (length t) q.at (text t)
+    text_out h = off record { short = omega arith; inside = omega arith; stops = λ F. byte_out _ _ q.file.now q.at (omega arith) }
 
--- the cells from `at` up to p are read
-abbrev pub CellsTo : ℕ → List ℕ → ℕ → ℕ → Type 0
-CellsTo lim s at p = Passed s at 1 (cell_below lim) (p - at) p
+    pub text_off : q.at < length q.file.now → (get_or q.file.now q.at 0 ≡ get_or t i 0 → ⊥) → Misfit r (length t) q.at (text t)
+    text_off h d = off record {
+      short = omega arith;
+      inside = omega arith;
+      stops = λ F. byte_off _ _ q.file.now q.at h (ne_eqb _ _ (λ x. d (sym x)));
+    }
 
-pub cells_none : (lim : ℕ) (s : List ℕ) (at : ℕ) → at ≤ length s → CellsTo lim s at at
-cells_none lim s at l = let z : at - at ≡ 0 = omega arith in rw z (passed_none l)
+-- ---- cells
 
-module _ (lim : ℕ) {s : List ℕ} {at p : ℕ} (h : at ≤ p) (g : CellsTo lim s at p) where
-  pub cells_off : (w : ℕ) → p < at + w → p < length s → lim ≤ cell_of (get_or s p 0) → Piece s at (at + w) p (cells lim w)
-  unfolding cells
-  cells_off w l b d = passed_short g (λ R. byte_off _ _ R s p b (le-ltb _ _ d)) w _ (omega arith) (omega arith) (omega arith)
+-- where no byte is a stray one each is a cell below lim
+pub all_cells : (lim : ℕ) (s : List ℕ) → any (length s) (λ i. leb lim (cell_of (get_or s i 0))) ≡ false
+    → (k : ℕ) → k < length s → cell_of (get_or s k 0) < lim
+all_cells lim s none k h =
+    let stray : ℕ → Bool = λ i. leb lim (cell_of (get_or s i 0)) in
+    leb-false _ _ (false_of (stray k) (λ t. subst T none (any_at _ stray k h t)))
 
-  pub cells_on : p < length s → cell_of (get_or s p 0) < lim → CellsTo lim s at (p + 1)
-  cells_on b d =
-      let count : p - at + 1 ≡ p + 1 - at = omega arith in
-      rw count at (passed_next g (λ R. byte_on _ _ s p b (lt-ltb _ _ d)) (omega arith))
+-- the row of w bytes from the reader on, or of as many as there are, n: how far the file fits where the first i of them are cells below lim
+module _ (lim w : ℕ) (r : Reader) (n : ℕ) (e : n ≡ min w (length r.file.now - r.at)) where
+  abbrev row : List ℕ
+  row = part r.file.now r.at (r.at + n)
 
-  -- at the end of all w cells, or of the file
-  pub cells_end : (w : ℕ) → p ≤ at + w → (p < at + w → p ≡ length s) → Piece s at (at + w) p (cells lim w)
-  unfolding cells
-  cells_end w l f = go (dec_lt p (at + w))
-    where
-      go : Dec (p < at + w) → Piece s at (at + w) p (cells lim w)
-      go (yes m) = passed_short g (λ R. byte_out _ _ R s p (f m)) w _ (omega arith) (omega arith) (omega arith)
-      go (no m) = passed_all w _ g (omega arith) (omega arith)
+  few : r.at + n ≤ length r.file.now
+  few = omega (arith, r.inside)
 
--- none of the bytes from `at` up to e is a stray one
-module _ (lim : ℕ) (s : List ℕ) (at e : ℕ) (h : at ≤ e) (l : e ≤ length s)
-    (none : any (length (part s at e)) (λ i. leb lim (cell_of (get_or (part s at e) i 0))) ≡ false) where
-  is_cell : (j : ℕ) → j < e - at → cell_of (get_or s (at + j) 0) < lim
-  is_cell j b =
-      let stray : ℕ → Bool = λ i. leb lim (cell_of (get_or (part s at e) i 0)) in
-      let size : j < length (part s at e) = rw (part_length s at e h l) b in
-      rw (part_at s at e h l j b) at
-      (leb-false lim (cell_of (get_or (part s at e) j 0)) (false_of (stray j) (λ t. subst T none (any_at _ stray j size t))))
+  row_length : length row ≡ n
+  row_length = let l = part_length r.file.now r.at (r.at + n) (omega arith) few in omega (arith, l)
 
-  cells_first : (j : ℕ) → j ≤ e - at → CellsTo lim s at (at + j)
-  cells_first zero b = let z : at + 0 ≡ at = omega arith in rw z (cells_none lim s at (omega arith))
-  cells_first (suc j) b =
-      let more : at + suc j ≡ at + j + 1 = omega arith in
-      rw more (cells_on lim (omega arith) (cells_first j (omega arith)) (omega arith) (is_cell j (omega arith)))
+  in_row : (k : ℕ) → k < n → get_or row k 0 ≡ get_or r.file.now (r.at + k) 0
+  in_row k h = part_at r.file.now r.at (r.at + n) (omega arith) few k (omega arith)
 
-  pub cells_block : CellsTo lim s at e
-  cells_block = let all : at + (e - at) ≡ e = omega arith in rw all at (cells_first (e - at) (le_refl (e - at)))
+  module _ (i : ℕ) (l : i ≤ n) (are : (k : ℕ) → k < i → cell_of (get_or row k 0) < lim) where
+    first_goes : (k : ℕ) → k ≤ i → Goes r.file.now r.at r.file.now (r.at + k) (times k (cell_below lim))
+    first_goes zero h = let z : r.at + 0 ≡ r.at = omega arith in rw z (times_none _ _ _)
+    first_goes (suc k) h =
+        let s = r.file.now in
+        let at : ℕ = r.at + k in
+        let more : r.at + suc k ≡ r.at + k + 1 = omega arith in
+        let is = in_row k (omega arith) in
+        let small : cell_of (get_or s (r.at + k) 0) < lim = rw (← is) (are k (omega arith)) in
+        let next : Goes s at s (at + 1) (cell_below lim k) = λ F. byte_on _ _ s at (omega (arith, few)) (lt-ltb _ _ small) in
+        rw (more, ← add-one k) (times_on _ _ _ _ _ k (first_goes k (omega arith)) _ _ next)
+
+    row_off : i < w → ((F : Layout) → place r.file.now (r.at + i) (cell_below lim i F) ≡ r.at + i) → Misfit r w (r.at + i) (cells lim w)
+    unfolding cells
+    row_off m f = record {
+      short = omega arith;
+      inside = omega (arith, few);
+      stops = times_off _ _ _ _ _ i (first_goes i (le_refl i)) w _ f m;
+    }
+
+  -- a byte is none
+  pub cells_off : (i : ℕ) → i < length row → lim ≤ cell_of (get_or row i 0) → ((k : ℕ) → k < i → cell_of (get_or row k 0) < lim)
+      → Misfit r w (r.at + i) (cells lim w)
+  cells_off i h o are =
+      let m : i < n = omega (arith, row_length) in
+      let is = in_row i m in
+      let other : lim ≤ cell_of (get_or r.file.now (r.at + i) 0) = rw (← is) o in
+      row_off i (omega arith) are (omega arith) (λ F. byte_off _ _ r.file.now (r.at + i) (omega (arith, few)) (le-ltb _ _ other))
+
+  module _ (are : (k : ℕ) → k < length row → cell_of (get_or row k 0) < lim) where
+    each : (k : ℕ) → k < n → cell_of (get_or row k 0) < lim
+    each k h = are k (omega (arith, row_length))
+
+    -- the file ends behind them
+    pub cells_out : length row < w → Misfit r w (r.at + n) (cells lim w)
+    cells_out m = row_off n (le_refl n) each (omega (arith, row_length)) (λ F. byte_out _ _ r.file.now (r.at + n) (omega (arith, row_length, few)))
+
+    -- they are all w
+    pub cells_all : {q : Reader} → w ≤ length row → q.file.now ≡ r.file.now → q.at ≡ r.at + n → Whole r q w (cells lim w) (λ F. F)
+    unfolding cells
+    cells_all m f a =
+        let all : n ≡ w = omega (arith, row_length) in record {
+          stands = omega arith;
+          goes = rw (f, a, ← all) (first_goes n (le_refl n) each n (le_refl n));
+        }
 
 -- ---- numbers of one digit and of two
 
@@ -125,61 +167,79 @@ unit_no lo hi x y f = go (dec_lt y 10)
     go (yes h) = rw (lt-ltb y 10 h) (digit_no lo hi (x * 10 + y) (f h))
     go (no h) = rw (le-ltb y 10 (omega arith))
 
-module _ (s : List ℕ) (at lo hi : ℕ) where
-  pub digit_out : at ≡ length s → Value s at (at + 1) at (digit lo hi) lo hi (digit_at s at)
+module _ (lo hi : ℕ) (r : Reader) where
+  pub digit_out : r.at ≡ length r.file.now → Misfit r 1 r.at (digit lo hi)
   unfolding digit
-  digit_out h = record { stops = λ F. byte_out _ _ _ s at h; range = λ r. (omega arith, omega arith) }
+  digit_out h = record { short = omega arith; inside = omega arith; stops = λ F. byte_out _ _ r.file.now r.at (omega arith) }
 
-  pub digit_off : at < length s → (lo ≤ digit_at s at → digit_at s at < hi → ⊥) → Value s at (at + 1) at (digit lo hi) lo hi (digit_at s at)
-  unfolding digit
-  digit_off h f =
-      record { stops = λ F. byte_off _ _ _ s at h (digit_no lo hi (digit_at s at) f); range = λ r. (omega arith, omega arith) }
-
-  pub digit_on : at < length s → lo ≤ digit_at s at → digit_at s at < hi → Value s at (at + 1) (at + 1) (digit lo hi) lo hi (digit_at s at)
-  unfolding digit
-  digit_on h l b = record { stops = λ F. byte_on _ _ s at h (rw (le-leb _ _ l, lt-ltb _ _ b)); range = λ r. (l, b) }
-
-  pub number_out : at ≡ length s → Value s at (at + 2) at (number lo hi) lo hi (number_at s at)
+  pub number_out : r.at ≡ length r.file.now → Misfit r 2 r.at (number lo hi)
   unfolding number
-  number_out h = record { stops = λ F. stop _ _ (byte_out _ _ end s at h) (omega arith) (omega arith); range = λ r. (omega arith, omega arith) }
+  number_out h = record { short = omega arith; inside = omega arith; stops = λ F. byte_out _ _ r.file.now r.at (omega arith) }
 
-  -- no such ten
-  pub ten_off : at < length s → (digit_at s at * 10 < hi → lo < digit_at s at * 10 + 10 → ⊥) → Value s at (at + 2) at (number lo hi) lo hi (number_at s at)
-  unfolding number
-  ten_off h f = record {
-    stops = λ F. stop _ _ (byte_off _ _ end s at h (ten_no lo hi (digit_at s at) f)) (omega arith) (omega arith);
-    range = λ r. (omega arith, omega arith);
-  }
+  -- x stands there
+  module _ (x : ℕ) (h : r.at < length r.file.now) (e : x ≡ digit_at r.file.now r.at) where
+    pub digit_off : (lo ≤ x → x < hi → ⊥) → Misfit r 1 r.at (digit lo hi)
+    unfolding digit
+    digit_off f = record {
+      short = omega arith;
+      inside = omega arith;
+      stops = λ F. byte_off _ _ r.file.now r.at h (digit_no lo hi (digit_at r.file.now r.at) (rw e at f));
+    }
 
-module _ (s : List ℕ) (at lo hi : ℕ) (h : at < length s) (above : digit_at s at * 10 < hi) (below : lo < digit_at s at * 10 + 10) where
-  -- what is to follow the ten
-  unit : (ℕ → Layout) → Layout
-  unit F = byte (λ y. unit_test lo hi (digit_at s at) (digit_of y)) (λ y. F (digit_at s at * 10 + digit_of y))
+    pub digit_on : {q : Reader} → q.file.now ≡ r.file.now → q.at ≡ r.at + 1 → lo ≤ x → x < hi → Whole r q 1 (digit lo hi) (λ F. F x)
+    unfolding digit
+    digit_on d a l b =
+        let low : lo ≤ digit_at r.file.now r.at = omega arith in
+        let high : digit_at r.file.now r.at < hi = omega arith in
+        record { stands = a; goes = λ F. rw (d, a, e) (byte_on _ _ r.file.now r.at h (rw (le-leb _ _ low, lt-ltb _ _ high))) }
 
-  ten_on : (F : ℕ → Layout) → Stops s at (at + 1) (at + 1) (number lo hi F) (unit F)
-  unfolding number unit
-  ten_on F = byte_on _ _ s at h (rw (lt-ltb _ _ above, lt-ltb _ _ below))
+    pub ten_off : (x * 10 < hi → lo < x * 10 + 10 → ⊥) → Misfit r 2 r.at (number lo hi)
+    unfolding number
+    ten_off f = record {
+      short = omega arith;
+      inside = omega arith;
+      stops = λ F. byte_off _ _ r.file.now r.at h (ten_no lo hi (digit_at r.file.now r.at) (rw e at f));
+    }
 
-  pub unit_out : at + 1 ≡ length s → Value s at (at + 2) (at + 1) (number lo hi) lo hi (number_at s at)
-  unfolding unit
-  unit_out l = record {
-    stops = λ F. stop _ _ (on (ten_on F) (omega arith) (byte_out _ _ end s (at + 1) l)) (omega arith) (omega arith);
-    range = λ r. (omega arith, omega arith);
-  }
+    -- it is the ten, and y the unit
+    module _ (above : x * 10 < hi) (below : lo < x * 10 + 10) where
+      -- what is to follow the ten
+      unit : (ℕ → Layout) → Layout
+      unit F = byte (λ y. unit_test lo hi x (digit_of y)) (λ y. F (x * 10 + digit_of y))
 
-  pub unit_off : at + 1 < length s → (digit_at s (at + 1) < 10 → lo ≤ number_at s at → number_at s at < hi → ⊥)
-      → Value s at (at + 2) (at + 1) (number lo hi) lo hi (number_at s at)
-  unfolding unit
-  unit_off l f = record {
-    stops = λ F. stop _ _ (on (ten_on F) (omega arith) (byte_off _ _ end s (at + 1) l
-        (unit_no lo hi (digit_at s at) (digit_at s (at + 1)) f))) (omega arith) (omega arith);
-    range = λ r. (omega arith, omega arith);
-  }
+      ten_on : (F : ℕ → Layout) → ahead r (number lo hi F) ≡ place r.file.now (r.at + 1) (unit F)
+      unfolding number unit
+      ten_on F =
+          let high : digit_at r.file.now r.at * 10 < hi = omega arith in
+          let low : lo < digit_at r.file.now r.at * 10 + 10 = omega arith in
+          rw e (byte_on _ _ r.file.now r.at h (rw (lt-ltb _ _ high, lt-ltb _ _ low)))
 
-  pub number_on : at + 1 < length s → digit_at s (at + 1) < 10 → lo ≤ number_at s at → number_at s at < hi
-      → Value s at (at + 2) (at + 1 + 1) (number lo hi) lo hi (number_at s at)
-  unfolding unit
-  number_on l d a b = let e : at + 2 ≡ at + 1 + 1 = omega arith in record {
-    stops = λ F. rw e (on (ten_on F) (omega arith) (byte_on _ _ s (at + 1) l (rw (lt-ltb _ _ d, le-leb _ _ a, lt-ltb _ _ b))));
-    range = λ r. (a, b);
-  }
+      pub unit_out : r.at + 1 ≡ length r.file.now → Misfit r 2 (r.at + 1) (number lo hi)
+      unfolding unit
+      unit_out l = record {
+        short = omega arith;
+        inside = omega arith;
+        stops = λ F. ten_on F ∙ byte_out _ _ r.file.now (r.at + 1) (omega arith);
+      }
+
+      module _ (y : ℕ) (l : r.at + 1 < length r.file.now) (d : y ≡ digit_at r.file.now (r.at + 1)) where
+        pub unit_off : (y < 10 → lo ≤ x * 10 + y → x * 10 + y < hi → ⊥) → Misfit r 2 (r.at + 1) (number lo hi)
+        unfolding unit
+        unit_off f = record {
+          short = omega arith;
+          inside = omega arith;
+          stops = λ F. ten_on F ∙ byte_off _ _ r.file.now (r.at + 1) l (unit_no lo hi x (digit_at r.file.now (r.at + 1)) (rw d at f));
+        }
+
+        pub number_on : {q : Reader} → q.file.now ≡ r.file.now → q.at ≡ r.at + 1 + 1 → y < 10 → lo ≤ x * 10 + y → x * 10 + y < hi
+            → Whole r q 2 (number lo hi) (λ F. F (x * 10 + y))
+        unfolding unit
+        number_on z a m b c =
+            let small : digit_at r.file.now (r.at + 1) < 10 = omega arith in
+            let low : lo ≤ x * 10 + digit_at r.file.now (r.at + 1) = omega arith in
+            let high : x * 10 + digit_at r.file.now (r.at + 1) < hi = omega arith in
+            record {
+              stands = omega arith;
+              goes = λ F. ten_on F
+                  ∙ rw (z, a, d) (byte_on _ _ r.file.now (r.at + 1) l (rw (lt-ltb _ _ small, le-leb _ _ low, lt-ltb _ _ high)));
+            }

@@ -1,15 +1,17 @@
-// The pieces of a file, read. A reader answers a place: the piece's end, or the first byte that does not fit it.
+// The pieces of a file, read. A reader answers whether its piece is there, or the place of the first byte that does not fit it.
 
 #![tactic(auto)]
 
-ghost use Rattle.std.specs.Prelude.{◌≡◌, ◌+◌, ◌*◌, ◌≤◌, ◌<◌, leb, length, get_or};
+ghost use Rattle.std.specs.Prelude.{◌≡◌, ◌+◌, ◌*◌, ◌≤◌, ◌<◌, ℕ, leb, length, get_or, slice_index, EachIndex};
+ghost use Rattle.std.specs.Prelude.{IfOk, MatchOption, MatchResult};
 ghost use Rattle.model.specs.Below.{any};
-ghost use Rattle.layout.specs.Layout.{Piece, Value, digit_of, cell_of, digit_at, number_at};
-ghost use Rattle.layout.specs.Layout.{text, digit, number, cells, numbers};
+ghost use Rattle.layout.specs.Layout.{digit_of, cell_of};
 
 // The value of a digit, and 10 of any other byte.
+#[tactic(auto, unfolding(layout::specs::Layout::digit_of))]
 pub fn digit_of(x: u8) -> usize
-    ensures { result ≡ digit_of x }
+    ensures value { result ≡ digit_of x }
+    ensures upper_bound { result ≤ 10 }
 {
     if x < 48 {
         return 10;
@@ -21,6 +23,7 @@ pub fn digit_of(x: u8) -> usize
 }
 
 // The value of a cell's character, and 3 of any other byte.
+#[tactic(auto, unfolding(layout::specs::Layout::cell_of))]
 pub fn cell_of(x: u8) -> u8
     ensures { result ≡ cell_of x }
 {
@@ -35,128 +38,142 @@ pub fn cell_of(x: u8) -> u8
     }
 }
 
-// These bytes.
-pub fn read_text(s: &[u8], at: usize, mark: &[u8]) -> usize
-    requires { at ≤ length s.now }
-    ensures { Piece s.now at (at + length mark.now) result (text mark.now) }
-{
-    let mut i = 0;
-    while i < mark.len() {
-        if s.len() - at <= i {
-            return at + i;
-        }
-        if s[at + i] != mark[i] {
-            return at + i;
-        }
-        i += 1;
-    }
-    at + i
-}
-
-// A digit from lo on and below hi.
-pub fn read_digit(s: &[u8], at: usize, lo: usize, hi: usize) -> usize
-    requires { at ≤ length s.now }
-    ensures { Value s.now at (at + 1) result (digit lo hi) lo hi (digit_at s.now at) }
-{
-    if s.len() <= at {
-        return at;
-    }
-    let x = digit_of(s[at]);
-    if x < lo {
-        return at;
-    }
-    if hi <= x {
-        return at;
-    }
-    at + 1
-}
-
-// A number of two digits, from lo on and below hi.
-pub fn read_number(s: &[u8], at: usize, lo: usize, hi: usize) -> usize
-    requires { at ≤ length s.now }
-    ensures { Value s.now at (at + 2) result (number lo hi) lo hi (number_at s.now at) }
-{
-    if s.len() <= at {
-        return at;
-    }
-    let ten = digit_of(s[at]) * 10;
-    if hi <= ten {
-        return at;
-    }
-    if ten + 10 <= lo {
-        return at;
-    }
-    let next = at + 1;
-    if s.len() <= next {
-        return next;
-    }
-    let unit = digit_of(s[next]);
-    if 10 <= unit {
-        return next;
-    }
-    if ten + unit < lo {
-        return next;
-    }
-    if hi <= ten + unit {
-        return next;
-    }
-    next + 1
-}
-
-// n numbers below hi.
-pub fn read_numbers(s: &[u8], at: usize, hi: usize, n: usize) -> usize
-    requires { (at ≤ length s.now) × (n ≤ 64) }
-    ensures { Piece s.now at (at + n * 2) result (numbers hi n) }
-{
-    let mut p = at;
-    let mut u = 0;
-    while u < n {
-        let r = read_number(s, p, 0, hi);
-        if r < p + 2 {
-            return r;
-        }
-        p = r;
-        u += 1;
-    }
-    p
-}
-
 // Whether some byte is no character of a cell below lim. There is no branch inside, so that the compiler takes many bytes at a time.
 fn strays(s: &[u8], lim: u8) -> bool
     ensures { result ≡ any (length s.now) (λ i. leb lim (cell_of (get_or s.now i 0))) }
 {
     let mut found = false;
-    let mut i = 0;
-    while i < s.len() {
-        found = found | (lim <= cell_of(s[i]));
-        i += 1;
+    for x in s {
+        found = found | (lim <= cell_of(*x));
     }
     found
 }
 
-// Where w bytes from `at` on end, if there are so many.
-fn piece_end(at: usize, w: usize, end: usize) -> usize
-    requires { at ≤ end }
-    ensures { (at ≤ result) × (result ≤ end) × (result ≤ at + w) × (result < at + w → result ≡ end) }
+// The first byte that is no character of a cell below lim. Only where there is one they are looked through one by one.
+#[tactic(auto, using(crate::proofs::Exits::all_cells))]
+fn stray(s: &[u8], lim: u8) -> Option<usize>
+    ensures { MatchOption result (EachIndex s.now (λ k. cell_of (slice_index s.now k) < lim))
+        (λ i. (i < length s.now) × (lim ≤ cell_of (slice_index s.now i)) × ((k : ℕ) → k < i → cell_of (slice_index s.now k) < lim)) }
 {
-    if end - at < w { end } else { at + w }
+    if strays(s, lim) {
+        s.iter().position(|x| lim <= cell_of(*x))
+    } else {
+        None
+    }
 }
 
-// w cells below lim. Only where some byte is no such cell they are looked through one by one.
-pub fn read_cells(s: &[u8], at: usize, lim: u8, w: usize) -> usize
-    requires { at ≤ length s.now }
-    ensures { Piece s.now at (at + w) result (cells lim w) }
-{
-    let e = piece_end(at, w, s.len());
-    if !strays(&s[at..e], lim) {
-        return e;
+// A file that is being read, and the place where the next byte stands.
+#[derive(Drop)]
+pub struct Reader<'a> {
+    pub file: &'a [u8],
+    pub at: usize,
+    ghost inside: { at ≤ length file.now },
+}
+
+impl<'a> Reader<'a> {
+    ghost use Rattle.layout.specs.Layout.{text, digit, number, cells, numbers, digit_at, number_at};
+    ghost use Rattle.readers.specs.Pieces.{Reads};
+
+    // A file from its first byte on.
+    pub fn new(file: &'a [u8]) -> Self
+        ensures file { result.file.now ≡ file.now }
+        ensures at { result.at ≡ 0 }
+    {
+        Reader { file, at: 0 }
     }
-    let mut p = at;
-    while p < e {
-        if lim <= cell_of(s[p]) {
-            return p;
+
+    // The next byte, or the place where the file ends.
+    fn peek(&self) -> Result<u8, usize>
+        ensures { MatchResult result (λ x. (self.now.at < length self.now.file.now) × (x ≡ get_or self.now.file.now self.now.at 0))
+            (λ p. (p ≡ self.now.at) × (p ≡ length self.now.file.now)) }
+    {
+        if self.at < self.file.len() {
+            Ok(self.file[self.at])
+        } else {
+            Err(self.at)
         }
-        p += 1;
     }
-    e
+
+    // The value of the next byte as a digit, or the place where the file ends.
+    fn peek_digit(&self) -> Result<usize, usize>
+        ensures { MatchResult result (λ x. (self.now.at < length self.now.file.now) × (x ≡ digit_at self.now.file.now self.now.at) × (x ≤ 10))
+            (λ p. (p ≡ self.now.at) × (p ≡ length self.now.file.now)) }
+    {
+        Ok(digit_of(self.peek()?))
+    }
+
+    // These bytes.
+    pub fn text(&mut self, mark: &[u8]) -> Result<(), usize>
+        ensures file { self.new.file.now ≡ self.old.file.now }
+        ensures read { Reads self.old self.new (length mark.now) (text mark.now) (λ _ F. F) result }
+    {
+        for x in mark {
+            if self.peek()? != *x {
+                return Err(self.at);
+            }
+            self.at += 1;
+        }
+        Ok(())
+    }
+
+    // A digit from lo on and below hi.
+    pub fn digit(&mut self, lo: usize, hi: usize) -> Result<usize, usize>
+        ensures file { self.new.file.now ≡ self.old.file.now }
+        ensures read { Reads self.old self.new 1 (digit lo hi) (λ x F. F x) result }
+        ensures value { IfOk result (λ x. (x ≡ digit_at self.old.file.now self.old.at) × (lo ≤ x) × (x < hi)) }
+    {
+        let x = self.peek_digit()?;
+        if x < lo || hi <= x {
+            return Err(self.at);
+        }
+        self.at += 1;
+        Ok(x)
+    }
+
+    // A number of two digits, from lo on and below hi.
+    pub fn number(&mut self, lo: usize, hi: usize) -> Result<usize, usize>
+        ensures file { self.new.file.now ≡ self.old.file.now }
+        ensures read { Reads self.old self.new 2 (number lo hi) (λ x F. F x) result }
+        ensures value { IfOk result (λ x. (x ≡ number_at self.old.file.now self.old.at) × (lo ≤ x) × (x < hi)) }
+    {
+        let ten = self.peek_digit()? * 10;
+        if hi <= ten || ten + 10 <= lo {
+            return Err(self.at);
+        }
+        self.at += 1;
+        let unit = self.peek_digit()?;
+        if 10 <= unit || ten + unit < lo || hi <= ten + unit {
+            return Err(self.at);
+        }
+        self.at += 1;
+        Ok(ten + unit)
+    }
+
+    // n numbers below hi.
+    pub fn numbers(&mut self, hi: usize, n: usize) -> Result<(), usize>
+        ensures file { self.new.file.now ≡ self.old.file.now }
+        ensures read { Reads self.old self.new (n * 2) (numbers hi n) (λ _ F. F) result }
+    {
+        for _ in 0..n {
+            self.number(0, hi)?;
+        }
+        Ok(())
+    }
+
+    // w cells below lim.
+    pub fn cells(&mut self, lim: u8, w: usize) -> Result<(), usize>
+        ensures file { self.new.file.now ≡ self.old.file.now }
+        ensures read { Reads self.old self.new w (cells lim w) (λ _ F. F) result }
+    {
+        let end = self.at + w.min(self.file.len() - self.at);
+        let row = &self.file[self.at..end];
+        if let Some(i) = stray(row, lim) {
+            return Err(self.at + i);
+        }
+        if row.len() < w {
+            return Err(end);
+        }
+        self.at = end;
+        Ok(())
+    }
 }

@@ -1,16 +1,17 @@
--- Where a reader of a record, of the sizes and of the last line stops: pieces one behind the other, each with the exit where s does not
--- fit. Assumes nothing.
-use mathlib.Core.Path.{◌≡◌, sym, ◌∙◌}
+-- Where a reader of a record, of the sizes and of the last line stops: pieces one behind the other, each with the exit where the file does
+-- not fit. Assumes nothing.
+use mathlib.Core.Path.{◌≡◌, refl, sym, ◌∙◌}
 use mathlib.Core.List.{List, [], ◌∷◌}
 use Prim.Native.Nat.{ℕ, suc, ◌+◌, ◌≤◌, ◌<◌}
 use native.Mathlib.Numerals.{add-one}
 use native.Mathlib.Omega.{arith}
-use lib.ListN.{length, drop, drop_of_length-le}
+use lib.ListN.{length, drop_of_length-le}
 use lib.Seq.{drop-cons}
 use Rattle.layout.specs.Text.{ZZ}
-use Rattle.layout.specs.Layout.{Layout, end, reach, Stops, Piece, Value, Sizes}
-use Rattle.layout.specs.Layout.{text, cells, digit, number, record_of, sizes, close}
-use Rattle.layout.proofs.Stops.{short, whole, stop, on, piece_within, value_within}
+use Rattle.layout.specs.Layout.{Layout, end, reach, text, cells, digit, number, record_of, sizes, close}
+use Rattle.readers.specs.declared.Reader.{Reader}
+use Rattle.readers.specs.Pieces.{ahead, Whole, Misfit}
+use Rattle.readers.proofs.Steps.{behind}
 
 -- the line feed
 abbrev feed : Layout → Layout
@@ -18,88 +19,90 @@ feed F = text (10 ∷ []) F
 
 -- ---- a record: its mark, its number, its cells, the line feed
 
-module _ {s : List ℕ} {at : ℕ} (mark : List ℕ) (lim w u : ℕ) {named : ℕ} (m : length mark ≡ 2)
-    (p : Piece s at (at + length mark) named (text mark)) where
-  pub record_named : named < at + 2 → Piece s at (at + (w + 5)) named (record_of mark lim w u)
+module _ (mark : List ℕ) (lim w u : ℕ) (m : length mark ≡ 2) where
+  -- what is to follow the mark
+  abbrev numbered : Layout → Layout
+  numbered F = number u (suc u) (λ _. cells lim w (feed F))
+
+  pub record_unnamed : {r : Reader} {p : ℕ} → Misfit r (length mark) p (text mark) → Misfit r (w + 5) p (record_of mark lim w u)
   unfolding record_of
-  record_named h F = stop _ _ (p (number u (suc u) (λ _. cells lim w (feed F)))) (omega arith) (omega arith)
+  record_unnamed f = behind numbered refl f (omega arith) (λ F. refl)
 
-  module _ (h : at + 2 ≤ named) {numbered x : ℕ} (q : Value s named (named + 2) numbered (number u (u + 1)) u (u + 1) x) where
-    to_number : (F : Layout) → Stops s at (named + 2) numbered (record_of mark lim w u F) (cells lim w (feed F))
+  module _ {r r₁ : Reader} (e₁ : r₁.file.now ≡ r.file.now) (p₁ : Whole r r₁ (length mark) (text mark) (λ F. F)) where
+    pub record_unnumbered : {p : ℕ} → Misfit r₁ 2 p (number u (u + 1)) → Misfit r (w + 5) p (record_of mark lim w u)
     unfolding record_of
-    to_number F =
-        let rest : ℕ → Layout = λ _. cells lim w (feed F) in
-        on (p (number u (suc u) rest)) (omega arith) (rw (add-one u) at (q.stops rest))
+    record_unnumbered f = behind (λ F _. cells lim w (feed F)) e₁ f (omega (arith, p₁.stands)) (λ F. rw (add-one u) (p₁.goes (numbered F)))
 
-    pub record_numbered : numbered < named + 2 → Piece s at (at + (w + 5)) numbered (record_of mark lim w u)
-    record_numbered l F = stop _ _ (to_number F) l (omega (arith, piece_within p))
+    module _ {r₂ : Reader} {x : ℕ} (e₂ : r₂.file.now ≡ r₁.file.now) (p₂ : Whole r₁ r₂ 2 (number u (u + 1)) (λ F. F x)) where
+      to_cells : (F : Layout) → ahead r (record_of mark lim w u F) ≡ ahead r₂ (cells lim w (feed F))
+      unfolding record_of
+      to_cells F = p₁.goes (numbered F) ∙ rw (add-one u) at (p₂.goes (λ _. cells lim w (feed F)))
 
-    module _ (k : named + 2 ≤ numbered) {filled : ℕ} (b : Piece s numbered (numbered + w) filled (cells lim w)) where
-      pub record_filled : filled < numbered + w → Piece s at (at + (w + 5)) filled (record_of mark lim w u)
-      record_filled l F = stop _ _ (on (to_number F) k (b (feed F))) l (omega (arith, piece_within p, value_within q))
+      pub record_unfilled : {p : ℕ} → Misfit r₂ w p (cells lim w) → Misfit r (w + 5) p (record_of mark lim w u)
+      record_unfilled f = behind feed (e₂ ∙ e₁) f (omega (arith, p₁.stands, p₂.stands)) to_cells
 
-      pub record_whole : {r : ℕ} → numbered + w ≤ filled → Piece s filled (filled + 1) r (text (10 ∷ []))
-          → Piece s at (at + (w + 5)) r (record_of mark lim w u)
-      record_whole l f F =
-          let e : filled + 1 ≡ at + (w + 5) = omega (arith, piece_within p, value_within q, piece_within b) in
-          rw e at (on (on (to_number F) k (b (feed F))) l (f F))
+      module _ {r₃ : Reader} (e₃ : r₃.file.now ≡ r₂.file.now) (p₃ : Whole r₂ r₃ w (cells lim w) (λ F. F)) where
+        pub record_unended : {p : ℕ} → Misfit r₃ 1 p (text (10 ∷ [])) → Misfit r (w + 5) p (record_of mark lim w u)
+        record_unended f =
+            behind (λ F. F) (e₃ ∙ e₂ ∙ e₁) f (omega (arith, p₁.stands, p₂.stands, p₃.stands)) (λ F. to_cells F ∙ p₃.goes (feed F))
+
+        pub record_whole : {r₄ : Reader} → Whole r₃ r₄ 1 (text (10 ∷ [])) (λ F. F) → Whole r r₄ (w + 5) (record_of mark lim w u) (λ F. F)
+        record_whole p₄ = record {
+          stands = omega (arith, p₁.stands, p₂.stands, p₃.stands, p₄.stands);
+          goes = λ F. to_cells F ∙ p₃.goes (feed F) ∙ p₄.goes F;
+        }
 
 -- ---- the sizes: the mark, the number of entities, that of rights
 
-module _ {s : List ℕ} (mark : List ℕ) {named : ℕ} (m : length mark ≡ 2) (p : Piece s 0 (0 + length mark) named (text mark)) where
-  pub sizes_named : (n k : ℕ) → named < 2 → Sizes s named mark n k
+module _ (mark : List ℕ) (m : length mark ≡ 2) where
+  -- what is to follow the mark
+  abbrev counted : (ℕ → ℕ → Layout) → Layout
+  counted F = number 0 65 (λ n. digit 1 9 (λ k. F n k))
+
+  pub sizes_unnamed : {r : Reader} {p : ℕ} → Misfit r (length mark) p (text mark) → Misfit r 5 p (sizes mark)
   unfolding sizes
-  sizes_named n k h = record {
-    stops = λ F. stop _ _ (p (number 0 65 (λ n. digit 1 9 (F n)))) (omega arith) (omega arith);
-    entities = λ b. omega arith;
-    right = λ b. omega arith;
-    rights = λ b. omega arith;
-  }
+  sizes_unnamed f = behind counted refl f (omega arith) (λ F. refl)
 
-  module _ (h : 2 ≤ named) {r n : ℕ} (q : Value s 2 4 r (number 0 65) 0 65 n) where
-    to_entities : (F : ℕ → ℕ → Layout) → Stops s 0 4 r (sizes mark F) (digit 1 9 (F n))
+  module _ {r r₁ : Reader} (e₁ : r₁.file.now ≡ r.file.now) (p₁ : Whole r r₁ (length mark) (text mark) (λ F. F)) where
+    pub sizes_uncounted : {p : ℕ} → Misfit r₁ 2 p (number 0 65) → Misfit r 5 p (sizes mark)
     unfolding sizes
-    to_entities F =
-        let e : named ≡ 2 = omega (arith, piece_within p) in
-        let rest : ℕ → Layout = λ n. digit 1 9 (F n) in
-        on (rw (e, m) at (p (number 0 65 rest))) (omega arith) (q.stops rest)
+    sizes_uncounted f = behind (λ F n. digit 1 9 (F n)) e₁ f (omega (arith, p₁.stands)) (λ F. p₁.goes (counted F))
 
-    pub sizes_entities : (k : ℕ) → r < 4 → Sizes s r mark n k
-    sizes_entities k l = record {
-      stops = λ F. stop _ _ (to_entities F) l (omega arith);
-      entities = λ b. omega arith;
-      right = λ b. omega arith;
-      rights = λ b. omega arith;
-    }
+    module _ {r₂ : Reader} {n : ℕ} (e₂ : r₂.file.now ≡ r₁.file.now) (p₂ : Whole r₁ r₂ 2 (number 0 65) (λ F. F n)) where
+      to_rights : (F : ℕ → ℕ → Layout) → ahead r (sizes mark F) ≡ ahead r₂ (digit 1 9 (F n))
+      unfolding sizes
+      to_rights F = p₁.goes (counted F) ∙ p₂.goes (λ n. digit 1 9 (F n))
 
-    pub sizes_whole : {r' k : ℕ} → 4 ≤ r → Value s 4 5 r' (digit 1 9) 1 9 k → Sizes s r' mark n k
-    sizes_whole l d =
-        let e : r ≡ 4 = omega (arith, value_within q) in record {
-          stops = λ F. on (rw e at (to_entities F)) (omega arith) (d.stops (F n));
-          entities = λ b. omega (arith, (q.range l).1);
-          right = λ b. omega (arith, (d.range b).0);
-          rights = λ b. omega (arith, (d.range b).1);
-        }
+      pub sizes_unright : {p : ℕ} → Misfit r₂ 1 p (digit 1 9) → Misfit r 5 p (sizes mark)
+      sizes_unright f = behind (λ F. F n) (e₂ ∙ e₁) f (omega (arith, p₁.stands, p₂.stands)) to_rights
+
+      pub sizes_whole : {r₃ : Reader} {k : ℕ} → Whole r₂ r₃ 1 (digit 1 9) (λ F. F k) → Whole r r₃ 5 (sizes mark) (λ F. F n k)
+      sizes_whole p₃ = record {
+        stands = omega (arith, p₁.stands, p₂.stands, p₃.stands);
+        goes = λ F. to_rights F ∙ p₃.goes (F n);
+      }
 
 -- ---- the last line: the mark, the line feed, the end
 
-module _ {s : List ℕ} {at marked : ℕ} (p : Piece s at (at + 2) marked (text ZZ)) where
-  pub close_marked : marked < at + 2 → marked ≡ at + reach close (drop at s)
+module _ {r : Reader} where
+  pub close_unmarked : {p : ℕ} → Misfit r 2 p (text ZZ) → p ≡ ahead r close
   unfolding close
-  close_marked h = sym (short (p (feed end)) h)
+  close_unmarked f = sym (f.stops (feed end))
 
-  module _ (h : at + 2 ≤ marked) {closed : ℕ} (q : Piece s marked (marked + 1) closed (text (10 ∷ []))) where
-    to_end : Stops s at (marked + 1) closed close end
+  module _ {r₁ : Reader} (p₁ : Whole r r₁ 2 (text ZZ) (λ F. F)) where
+    pub close_unended : {p : ℕ} → Misfit r₁ 1 p (text (10 ∷ [])) → p ≡ ahead r close
     unfolding close
-    to_end = on (p (feed end)) h (q end)
+    close_unended f = sym (p₁.goes (feed end) ∙ f.stops end)
 
-    pub close_short : closed < marked + 1 → closed ≡ at + reach close (drop at s)
-    close_short l = sym (short to_end l)
+    module _ {r₂ : Reader} (p₂ : Whole r₁ r₂ 1 (text (10 ∷ [])) (λ F. F)) where
+      to_end : ahead r close ≡ ahead r₂ end
+      unfolding close
+      to_end = p₁.goes (feed end) ∙ p₂.goes end
 
-    pub close_more : marked + 1 ≤ closed → closed < length s → closed ≡ at + reach close (drop at s)
-    unfolding reach
-    close_more l b = rw (drop-cons s closed 0 b) (omega arith) ∙ sym (whole to_end l)
+      pub close_more : r₂.at < length r₂.file.now → r₂.at ≡ ahead r close
+      unfolding reach
+      close_more b = rw (drop-cons r₂.file.now r₂.at 0 b) (omega arith) ∙ sym to_end
 
-    pub close_whole : marked + 1 ≤ closed → length s ≤ closed → closed + 1 ≡ at + reach close (drop at s)
-    unfolding reach
-    close_whole l b = rw (drop_of_length-le s {i = closed} b) (omega arith) ∙ sym (whole to_end l)
+      pub close_whole : r₂.file.now ≡ r.file.now → length r₂.file.now ≤ r₂.at → length r.file.now + 1 ≡ ahead r close
+      unfolding reach
+      close_whole e b = rw (← e, drop_of_length-le r₂.file.now {i = r₂.at} b) (omega (arith, r₂.inside)) ∙ sym to_end

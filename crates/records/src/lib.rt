@@ -2,78 +2,72 @@
 
 #![tactic(auto)]
 
-ghost use Rattle.std.specs.Prelude.{◌≡◌, ◌+◌, ◌*◌, ◌≤◌, ◌<◌, length, drop};
-ghost use Rattle.layout.specs.Layout.{reach, Piece, Sizes, digit_at, number_at, record_of, records, close};
+ghost use Rattle.std.specs.Prelude.{◌≡◌, ◌+◌, ◌*◌, ◌≤◌, ◌<◌, length, IfOk, IfErr};
+ghost use Rattle.layout.specs.Layout.{digit_at, number_at, record_of, records, sizes, close};
+ghost use Rattle.readers.specs.Pieces.{Reads, ahead, stopped};
+
+use readers::Reader;
 
 // Record u: a mark, u, w cells below lim, a line feed.
-pub fn read_record(s: &[u8], at: usize, mark: &[u8], lim: u8, w: usize, u: usize) -> usize
-    requires { (at ≤ length s.now) × (length mark.now ≡ 2) × (u < 100) × (w ≤ 512) }
-    ensures { Piece s.now at (at + (w + 5)) result (record_of mark.now lim w u) }
+pub fn read_record(
+    reader: &mut Reader,
+    mark: &[u8],
+    lim: u8,
+    w: usize,
+    u: usize,
+) -> Result<(), usize>
+    requires { (length mark.now ≡ 2) × (u < 100) }
+    ensures file { reader.new.file.now ≡ reader.old.file.now }
+    ensures read { Reads reader.old reader.new (w + 5) (record_of mark.now lim w u) (λ _ F. F) result }
 {
-    let named = readers::read_text(s, at, mark);
-    if named < at + 2 {
-        return named;
-    }
-    let numbered = readers::read_number(s, named, u, u + 1);
-    if numbered < named + 2 {
-        return numbered;
-    }
-    let filled = readers::read_cells(s, numbered, lim, w);
-    if filled < numbered + w {
-        return filled;
-    }
-    readers::read_text(s, filled, b"\n")
+    reader.text(mark)?;
+    reader.number(u, u + 1)?;
+    reader.cells(lim, w)?;
+    reader.text(b"\n")
 }
 
 // c records of w cells below lim each.
-pub fn read_records(s: &[u8], at: usize, mark: &[u8], lim: u8, w: usize, c: usize) -> usize
-    requires { (at ≤ length s.now) × (length mark.now ≡ 2) × (c ≤ 64) × (w ≤ 512) }
-    ensures { Piece s.now at (at + c * (w + 5)) result (records mark.now lim w c) }
+pub fn read_records(
+    reader: &mut Reader,
+    mark: &[u8],
+    lim: u8,
+    w: usize,
+    c: usize,
+) -> Result<(), usize>
+    requires { (length mark.now ≡ 2) × (c ≤ 64) }
+    ensures file { reader.new.file.now ≡ reader.old.file.now }
+    ensures read { Reads reader.old reader.new (c * (w + 5)) (records mark.now lim w c) (λ _ F. F) result }
 {
-    let mut p = at;
-    let mut u = 0;
-    while u < c {
-        let r = read_record(s, p, mark, lim, w, u);
-        if r < p + (w + 5) {
-            return r;
-        }
-        p = r;
-        u += 1;
+    for u in 0..c {
+        read_record(reader, mark, lim, w, u)?;
     }
-    p
+    Ok(())
 }
 
 // A mark, the number of entities, that of rights.
-pub fn read_sizes(s: &[u8], mark: &[u8]) -> usize
+pub fn read_sizes(reader: &mut Reader, mark: &[u8]) -> Result<(usize, usize), usize>
     requires { length mark.now ≡ 2 }
-    ensures { Sizes s.now result mark.now (number_at s.now 2) (digit_at s.now 4) }
+    ensures file { reader.new.file.now ≡ reader.old.file.now }
+    ensures read { Reads reader.old reader.new 5 (sizes mark.now) (λ z F. F z.0 z.1) result }
+    ensures entities { IfOk result (λ z. (z.0 ≡ number_at reader.old.file.now (reader.old.at + 2)) × (z.0 ≤ 64)) }
+    ensures rights { IfOk result (λ z. (z.1 ≡ digit_at reader.old.file.now (reader.old.at + 4)) × (0 < z.1) × (z.1 ≤ 8)) }
 {
-    let named = readers::read_text(s, 0, mark);
-    if named < 2 {
-        return named;
-    }
-    let entities = readers::read_number(s, 2, 0, 65);
-    if entities < 4 {
-        return entities;
-    }
-    readers::read_digit(s, 4, 1, 9)
+    reader.text(mark)?;
+    let n = reader.number(0, 65)?;
+    let k = reader.digit(1, 9)?;
+    Ok((n, k))
 }
 
-// The last line, with nothing behind it: past the file's end where that is so.
-pub fn read_close(s: &[u8], at: usize) -> usize
-    requires { at ≤ length s.now }
-    ensures { result ≡ at + reach close (drop at s.now) }
+// The last line, with nothing behind it.
+pub fn read_close(reader: &mut Reader) -> Result<(), usize>
+    ensures place { stopped (length reader.old.file.now) result ≡ ahead reader.old close }
+    ensures fault { IfErr result (λ p. p ≤ length reader.old.file.now) }
 {
-    let marked = readers::read_text(s, at, b"ZZ");
-    if marked < at + 2 {
-        return marked;
+    reader.text(b"ZZ")?;
+    reader.text(b"\n")?;
+    if reader.at < reader.file.len() {
+        Err(reader.at)
+    } else {
+        Ok(())
     }
-    let closed = readers::read_text(s, marked, b"\n");
-    if closed < marked + 1 {
-        return closed;
-    }
-    if closed < s.len() {
-        return closed;
-    }
-    closed + 1
 }

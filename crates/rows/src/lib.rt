@@ -1,51 +1,50 @@
-// The lines of a file, written: each goes to `out` from `at` on, and the other bytes stay.
+// The lines of a file, written: each goes to the buffer from the writer's place on, and the other bytes stay.
 
 #![tactic(auto)]
 
 ghost use Rattle.std.specs.Prelude.{◌≡◌, ◌++◌, ◌+◌, ◌*◌, ◌≤◌, ◌<◌, length};
-ghost use Rattle.std.proofs.lemmas.List.Edits.{sets};
 ghost use Rattle.layout.specs.Text.{ZZ, each, one, two, line, record_text};
+ghost use Rattle.writers.specs.Writes.{HasRoom, Writes};
+
+use writers::Writer;
 
 // Record u, of w cells.
-pub fn put_record(out: &mut [u8], at: usize, mark: &[u8], u: usize, w: usize, cells: &[u8])
-    requires { (length mark.now ≡ 2) × (u < 100) × (at + (w + 5) ≤ length out.old) × (u * w + w ≤ length cells.now) }
-    ensures { out.new ≡ sets out.old at (record_text mark.now w cells.now u) }
+pub fn put_record(out: &mut Writer, mark: &[u8], u: usize, w: usize, cells: &[u8])
+    requires { (length mark.now ≡ 2) × (u < 100) × HasRoom out.old (w + 5) × (u * w + w ≤ length cells.now) }
+    ensures written { Writes out.old out.new (record_text mark.now w cells.now u) }
+    ensures ends { out.new.at ≡ out.old.at + (w + 5) }
 {
-    writers::put(out, at, mark);
-    writers::put_number(out, at + 2, u);
-    writers::put_cells(out, at + 4, cells, u * w, w);
-    writers::put(out, at + 4 + w, b"\n");
+    out.put(mark);
+    out.put_number(u);
+    out.put_cells(&cells[u * w..u * w + w]);
+    out.put(b"\n");
 }
 
 // c records of w cells each.
-pub fn put_records(out: &mut [u8], at: usize, mark: &[u8], c: usize, w: usize, cells: &[u8])
-    requires { (length mark.now ≡ 2) × (c ≤ 100) × (at + c * (w + 5) ≤ length out.old) × (c * w ≤ length cells.now) }
-    ensures { out.new ≡ sets out.old at (each c (record_text mark.now w cells.now)) }
+pub fn put_records(out: &mut Writer, mark: &[u8], c: usize, w: usize, cells: &[u8])
+    requires { (length mark.now ≡ 2) × (c ≤ 100) × HasRoom out.old (c * (w + 5)) × (c * w ≤ length cells.now) }
+    ensures written { Writes out.old out.new (each c (record_text mark.now w cells.now)) }
+    ensures ends { out.new.at ≡ out.old.at + c * (w + 5) }
 {
-    let mut to = at;
-    let mut u = 0;
-    while u < c {
-        put_record(out, to, mark, u, w, cells);
-        to += w + 5;
-        u += 1;
+    for u in 0..c {
+        put_record(out, mark, u, w, cells);
     }
 }
 
 // A mark, the number of entities, that of rights.
-pub fn put_sizes(out: &mut [u8], mark: &[u8], n: usize, k: usize)
-    requires { (length mark.now ≡ 2) × (n < 100) × (k < 10) × (5 ≤ length out.old) }
-    ensures { out.new ≡ sets out.old 0 (mark.now ++ (two n ++ one k)) }
+pub fn put_sizes(out: &mut Writer, mark: &[u8], n: usize, k: usize)
+    requires { (length mark.now ≡ 2) × (n < 100) × (k < 10) × HasRoom out.old 5 }
+    ensures { Writes out.old out.new (mark.now ++ (two n ++ one k)) }
 {
-    writers::put(out, 0, mark);
-    writers::put_number(out, 2, n);
-    writers::put_digit(out, 4, k);
+    out.put(mark);
+    out.put_number(n);
+    out.put_digit(k);
 }
 
 // The last line.
-pub fn put_close(out: &mut [u8], at: usize)
-    requires { at + 3 ≤ length out.old }
-    ensures { out.new ≡ sets out.old at (line ZZ) }
+pub fn put_close(out: &mut Writer)
+    requires { HasRoom out.old 3 }
+    ensures { Writes out.old out.new (line ZZ) }
 {
-    writers::put(out, at, b"ZZ");
-    writers::put(out, at + 2, b"\n");
+    out.put(b"ZZ\n");
 }

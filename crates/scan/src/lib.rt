@@ -2,29 +2,27 @@
 
 #![tactic(auto)]
 
-ghost use Rattle.std.specs.Prelude.{◌≡◌, cond, ◌*◌, ◌≤◌, ◌<◌, leb};
-ghost use Rattle.model.specs.declared.Checked.TheVariants.{Fine, Bad};
+ghost use Rattle.std.specs.Prelude.{◌≡◌, ◌*◌, ◌≤◌, ◌<◌};
 ghost use Rattle.model.specs.Matrix.{cell_at};
 ghost use Rattle.model.specs.Refusal.{refusal, cell_refusal, checked};
 ghost use Rattle.model.specs.Rules.{size_rules, request_rules, pair_rules, room_rules};
 
-use model::{Checked, Refusal};
+use model::{Fault, Refusal};
 
 // A refusal that names no cell.
-pub fn refuse(number: usize, place: usize) -> Refusal
-    ensures { result ≡ refusal number place }
+#[tactic(auto, unfolding(model::specs::Refusal::refusal))]
+pub fn refuse(fault: Fault, place: usize) -> Refusal
+    ensures { result ≡ refusal fault place }
 {
-    Refusal { number, place }
+    Refusal { fault, place }
 }
 
 // A refusal that names a cell, among k rights and y receivers.
-pub fn refuse_cell(number: usize, k: usize, y: usize, cell: usize) -> Refusal
-    ensures { result ≡ cell_refusal number k y cell }
+#[tactic(auto, unfolding(model::specs::Refusal::cell_refusal))]
+pub fn refuse_cell(fault: Fault, k: usize, y: usize, cell: usize) -> Refusal
+    ensures { result ≡ cell_refusal fault k y cell }
 {
-    Refusal {
-        number,
-        place: cell,
-    }
+    Refusal { fault, place: cell }
 }
 
 // Where cell (p, a, q) stands among x senders, k rights and y receivers.
@@ -36,69 +34,63 @@ pub fn cell_at(x: usize, k: usize, y: usize, p: usize, a: usize, q: usize) -> us
 }
 
 // 1: n above 64; k 0 or above 8; d above 64. A call that has no d passes 0.
-pub fn sizes(n: usize, k: usize, d: usize) -> Checked
+#[tactic(auto, using(model::proofs::Groups::tests), unfolding(model::specs::Rules::size_rules))]
+pub fn sizes(n: usize, k: usize, d: usize) -> Result<(), Refusal>
     ensures { result ≡ checked (size_rules n k d) }
 {
     if 64 < n {
-        return Checked::Bad(refuse(1, 0));
+        return Err(refuse(Fault::Limit, 0));
     }
     if k == 0 {
-        return Checked::Bad(refuse(1, 1));
+        return Err(refuse(Fault::Limit, 1));
     }
     if 8 < k {
-        return Checked::Bad(refuse(1, 1));
+        return Err(refuse(Fault::Limit, 1));
     }
     if 64 < d {
-        return Checked::Bad(refuse(1, 2));
+        return Err(refuse(Fault::Limit, 2));
     }
-    Checked::Fine
+    Ok(())
 }
 
 // 9 for a request: sender, right, receiver.
-pub fn request_fits(n: usize, k: usize, u: usize, a: usize, v: usize) -> Checked
+#[tactic(auto, using(model::proofs::Groups::tests), unfolding(model::specs::Rules::request_rules))]
+pub fn request_fits(n: usize, k: usize, u: usize, a: usize, v: usize) -> Result<(), Refusal>
     ensures { result ≡ checked (request_rules n k u a v) }
 {
     if n <= u {
-        return Checked::Bad(refuse(9, 0));
+        return Err(refuse(Fault::OutOfRange, 0));
     }
     if k <= a {
-        return Checked::Bad(refuse(9, 1));
+        return Err(refuse(Fault::OutOfRange, 1));
     }
     if n <= v {
-        return Checked::Bad(refuse(9, 2));
+        return Err(refuse(Fault::OutOfRange, 2));
     }
-    Checked::Fine
+    Ok(())
 }
 
 // 9 for two entities.
-pub fn pair_fits(n: usize, u: usize, v: usize) -> Checked
+#[tactic(auto, using(model::proofs::Groups::tests), unfolding(model::specs::Rules::pair_rules))]
+pub fn pair_fits(n: usize, u: usize, v: usize) -> Result<(), Refusal>
     ensures { result ≡ checked (pair_rules n u v) }
 {
     if n <= u {
-        return Checked::Bad(refuse(9, 0));
+        return Err(refuse(Fault::OutOfRange, 0));
     }
     if n <= v {
-        return Checked::Bad(refuse(9, 1));
+        return Err(refuse(Fault::OutOfRange, 1));
     }
-    Checked::Fine
+    Ok(())
 }
 
 // 10 and 11: a buffer of `have` bytes where `need` are to be written.
-pub fn room_fits(number: usize, have: usize, need: usize) -> Checked
-    ensures { result ≡ checked (room_rules number have need) }
+#[tactic(auto, using(model::proofs::Groups::tests), unfolding(model::specs::Rules::room_rules))]
+pub fn room_fits(fault: Fault, have: usize, need: usize) -> Result<(), Refusal>
+    ensures { result ≡ checked (room_rules fault have need) }
 {
     if have < need {
-        return Checked::Bad(refuse(number, need));
+        return Err(refuse(fault, need));
     }
-    Checked::Fine
-}
-
-// The number of the call for a file of `end` bytes that stops fitting at `place`; past its end it fits.
-pub fn place_fits(number: usize, place: usize, end: usize) -> Checked
-    ensures { result ≡ cond (leb place end) (Bad (refusal number place)) Fine }
-{
-    if place <= end {
-        return Checked::Bad(refuse(number, place));
-    }
-    Checked::Fine
+    Ok(())
 }

@@ -13,20 +13,16 @@ ghost use Rattle.words.specs.Calls.{ask_word, alike_word, build_word, judge_word
 ghost use Rattle.filewords.specs.Files.{MatrixReadWord, PolicyReadWord, WrittenWord};
 ghost use Rattle.filewords.specs.Weave.{WeaveWord};
 
-use files::Wrote;
-use model::Checked;
+use model::{Fault, Refusal};
 
 // The length of the answer to an input; the first bytes of `output` become the answer, later bytes stay: the file of the built policy where
 // the input is the file of a full matrix, and else the line NO with the number and the place. Refused, before anything is written: 11 where
 // `output` has less than 33,230 bytes, which are enough for every answer.
-pub fn weave_bytes(input: &[u8], output: &mut [u8]) -> Wrote
+pub fn weave_bytes(input: &[u8], output: &mut [u8]) -> Result<usize, Refusal>
     ensures { Weaves input.now output.old result output.new }
 {
-    let room = scan::room_fits(11, output.len(), 33230);
-    if let Checked::Bad(r) = room {
-        return Wrote::Refused(r);
-    }
-    Wrote::Length(loom::weave(input, output))
+    scan::room_fits(Fault::Room, output.len(), 33230)?;
+    Ok(loom::weave(input, output))
 }
 
 // The ask, for C: `ask::ask` with its answer as a word.
@@ -42,14 +38,14 @@ pub fn soroluzko_ask(
 ) -> u64
     ensures { result ≡ ask_word n k u a v (policy d assignment.now table.now) }
 {
-    codes::asked_word(ask::ask(n, k, d, u, a, v, assignment, table))
+    codes::flag_word(ask::ask(n, k, d, u, a, v, assignment, table))
 }
 
 // Alike, for C: `alike::alike` with its answer as a word.
 pub fn soroluzko_alike(n: usize, k: usize, u: usize, v: usize, matrix: &[u8]) -> u64
     ensures { result ≡ alike_word n k u v matrix.now }
 {
-    codes::compared_word(alike::alike(n, k, u, v, matrix))
+    codes::flag_word(alike::alike(n, k, u, v, matrix))
 }
 
 // The build, for C: `build::build` with its answer as a word.
@@ -64,7 +60,7 @@ pub fn soroluzko_build(
     ensures assignment_after { assignment.new ≡ assignment_left n k matrix.now assignment.old table.old }
     ensures table_after { table.new ≡ table_left n k matrix.now assignment.old table.old }
 {
-    codes::built_word(build::build(n, k, matrix, assignment, table))
+    word::size_word(build::build(n, k, matrix, assignment, table))
 }
 
 // The judge, for C: `judge::judge` with its answer as a word.
@@ -100,7 +96,7 @@ pub fn soroluzko_write_matrix(n: usize, k: usize, matrix: &[u8], file: &mut [u8]
     ensures { WrittenWord (matrix_write_rules n k matrix.now (length file.old)) (matrix_text n k matrix.now)
         file.old result file.new }
 {
-    filecodes::wrote_word(files::write_matrix(n, k, matrix, file))
+    word::size_word(files::write_matrix(n, k, matrix, file))
 }
 
 // Writing a policy file, for C: `files::write_policy` with its answer as a word.
@@ -115,12 +111,12 @@ pub fn soroluzko_write_policy(
     ensures { WrittenWord (policy_write_rules n k (policy d assignment.now table.now) (length file.old))
         (policy_text n k (policy d assignment.now table.now)) file.old result file.new }
 {
-    filecodes::wrote_word(files::write_policy(n, k, d, assignment, table, file))
+    word::size_word(files::write_policy(n, k, d, assignment, table, file))
 }
 
 // The weave, for C: `weave_bytes` with its answer as a word.
 pub fn soroluzko_weave(input: &[u8], output: &mut [u8]) -> u64
     ensures { WeaveWord input.now output.old result output.new }
 {
-    filecodes::wrote_word(weave_bytes(input, output))
+    word::size_word(weave_bytes(input, output))
 }

@@ -1,13 +1,15 @@
 -- The table's cells, written in cell order: the cell that is next, (p, a, q), is the matrix cell from the member of p to the member
--- of q, and both places lie inside. Assumes nothing.
-use mathlib.Core.Path.{◌≡◌, sym, ap, ◌∙◌}
-use mathlib.Core.List.{List}
-use Prim.Native.Nat.{ℕ, ◌+◌, ◌*◌, ◌/◌, ◌%◌, ◌≤◌, ◌<◌}
+-- of q, and both places lie inside. And what the assignment takes over. Assumes nothing.
+use mathlib.Core.Path.{◌≡◌, refl, sym, ap, ◌∙◌}
+use mathlib.Core.List.{List, [], ◌∷◌}
+use Prim.Native.Nat.{ℕ, zero, suc, ◌+◌, ◌*◌, ◌/◌, ◌%◌, ◌≤◌, ◌<◌}
 use native.Mathlib.Omega.{arith}
-use lib.ListN.{length, get_or}
+use lib.ListN.{length, get_or, take}
+use Rattle.model.specs.Below.{tab}
 use Rattle.model.specs.Matrix.{cell_at, cell, Laid}
-use Rattle.model.proofs.Places.{parts, steps, small}
-use Rattle.classes.specs.Members.{Members}
+use Rattle.model.proofs.Places.{parts, steps}
+use Rattle.classes.specs.declared.Classes.{Classes}
+use Rattle.classes.specs.Members.{nth, Members}
 
 module _ (n k d : ℕ) (m low : List ℕ) where
   -- what stands at i of the table
@@ -23,26 +25,23 @@ module _ (n k d : ℕ) (m low : List ℕ) where
 
   -- where the code reads and writes
   pub record At (p a q to : ℕ) : Type 0 where
-    pub rows : get_or low p 0 * k ≤ 512
-    pub row : get_or low p 0 * k + a < 512
-    pub from : (get_or low p 0 * k + a) * n ≤ 32768
     pub reads : (get_or low p 0 * k + a) * n + get_or low q 0 < length m
-    pub bound : length m ≤ 32768
     pub writes : to < d * k * d
-    pub small : to < 32768
 
   pub at : Laid n k m → Members n d low → (p a q to : ℕ) → to ≡ cell_at k d p a q → p < d → a < k → q < d → At p a q to
   at L low-n p a q to e h b l =
       let x = steps L.entities L.rights L.entities (low-n.each p h) b (low-n.each q l) in
       let few : d ≤ 64 = omega (arith, L.entities, low-n.few) in
       let y = steps few L.rights few h b l in
-      let z = small L.entities L.rights L.entities in
-      record {
-        rows = x.sender;
-        row = x.row;
-        from = x.start;
-        reads = omega (arith, L.size, x.inside);
-        bound = omega (arith, L.size, z.cells);
-        writes = omega (arith, y.inside);
-        small = omega (arith, y.place);
-      }
+      record { reads = omega (arith, L.size, x.inside); writes = omega (arith, y.inside) }
+
+-- the cells of the table of classes
+abbrev pub cells_of : Classes → ℕ → ℕ
+cells_of c = table_cell c.of.n c.of.k c.count c.of.cells.now c.members
+
+-- the first n bytes of a list are those at the numbers below n
+pub take_tab : (n : ℕ) (l : List ℕ) → n ≤ length l → take n l ≡ tab n (nth l)
+unfolding tab
+take_tab zero l h = refl
+take_tab (suc n) [] h = absurd (omega arith)
+take_tab (suc n) (x ∷ xs) h = ap (λ t. x ∷ t) (take_tab n xs (omega arith))

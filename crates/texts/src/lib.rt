@@ -3,11 +3,13 @@
 #![tactic(auto)]
 
 ghost use Rattle.std.specs.Prelude.{◌≡◌, ◌++◌, ℕ, ◌+◌, ◌*◌, ◌≤◌, ◌<◌, length, get_or};
-ghost use Rattle.std.proofs.lemmas.List.Edits.{sets};
 ghost use Rattle.model.specs.Matrix.{Holds};
 ghost use Rattle.model.specs.Policy.{policy, Within};
 ghost use Rattle.model.specs.Refusal.{over};
 ghost use Rattle.layout.specs.Text.{PD, AS, each, one, two, line, matrix_text, policy_text};
+ghost use Rattle.writers.specs.Writes.{HasRoom, Writes};
+
+use writers::Writer;
 
 // The file, and its length.
 pub fn put_matrix(n: usize, k: usize, matrix: &[u8], file: &mut [u8]) -> usize
@@ -16,12 +18,12 @@ pub fn put_matrix(n: usize, k: usize, matrix: &[u8], file: &mut [u8]) -> usize
     ensures value { result ≡ length (matrix_text n k matrix.now) }
     ensures file_after { file.new ≡ over (matrix_text n k matrix.now) file.old }
 {
-    let end = 6 + n * (k * n + 5);
-    rows::put_sizes(file, b"MX", n, k);
-    writers::put(file, 5, b"\n");
-    rows::put_records(file, 6, b"RW", n, k * n, matrix);
-    rows::put_close(file, end);
-    end + 3
+    let mut out = Writer::new(file);
+    rows::put_sizes(&mut out, b"MX", n, k);
+    out.put(b"\n");
+    rows::put_records(&mut out, b"RW", n, k * n, matrix);
+    rows::put_close(&mut out);
+    out.at
 }
 
 // The file, and its length.
@@ -38,34 +40,32 @@ pub fn put_policy(
     ensures value { result ≡ length (policy_text n k (policy d assignment.now table.now)) }
     ensures file_after { file.new ≡ over (policy_text n k (policy d assignment.now table.now)) file.old }
 {
-    let from = 11 + n * 2;
-    let end = from + d * (k * d + 5);
-    put_head(n, k, d, file);
-    put_assigned(assignment, file);
-    rows::put_records(file, from, b"TB", d, k * d, table);
-    rows::put_close(file, end);
-    end + 3
+    let mut out = Writer::new(file);
+    put_head(&mut out, n, k, d);
+    put_assigned(&mut out, assignment);
+    rows::put_records(&mut out, b"TB", d, k * d, table);
+    rows::put_close(&mut out);
+    out.at
 }
 
 // The first line.
-fn put_head(n: usize, k: usize, d: usize, file: &mut [u8])
-    requires { (n < 100) × (k < 10) × (d < 100) × (8 ≤ length file.old) }
-    ensures { file.new ≡ sets file.old 0 (line (PD ++ (two n ++ (one k ++ two d)))) }
+fn put_head(out: &mut Writer, n: usize, k: usize, d: usize)
+    requires { (n < 100) × (k < 10) × (d < 100) × HasRoom out.old 8 }
+    ensures { Writes out.old out.new (line (PD ++ (two n ++ (one k ++ two d)))) }
 {
-    rows::put_sizes(file, b"PD", n, k);
-    writers::put_number(file, 5, d);
-    writers::put(file, 7, b"\n");
+    rows::put_sizes(out, b"PD", n, k);
+    out.put_number(d);
+    out.put(b"\n");
 }
 
 // The second line.
-fn put_assigned(assignment: &[u8], file: &mut [u8])
-    requires file_has_room { 11 + length assignment.now * 2 ≤ length file.old }
+fn put_assigned(out: &mut Writer, assignment: &[u8])
+    requires file_has_room { HasRoom out.old (3 + length assignment.now * 2) }
     requires below_100 { (i : ℕ) → i < length assignment.now → get_or assignment.now i 0 < 100 }
-    ensures { file.new
-        ≡ sets file.old 8 (line (AS ++ each (length assignment.now) (λ u. two (get_or assignment.now u 0)))) }
+    ensures written { Writes out.old out.new (line (AS ++ each (length assignment.now) (λ u. two (get_or assignment.now u 0)))) }
+    ensures ends { out.new.at ≡ out.old.at + (3 + length assignment.now * 2) }
 {
-    let end = 10 + assignment.len() * 2;
-    writers::put(file, 8, b"AS");
-    writers::put_numbers(file, 10, assignment);
-    writers::put(file, end, b"\n");
+    out.put(b"AS");
+    out.put_numbers(assignment);
+    out.put(b"\n");
 }

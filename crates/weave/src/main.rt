@@ -2,14 +2,11 @@
 
 #![tactic(auto)]
 
-use files::Wrote;
-
 fn main() {
     let mut input: [u8; 33098] = [0; 33098];
     let mut output: [u8; 33230] = [0; 33230];
     let taken = io::read_full(0, &mut input);
-    let wrote = soroluzko::weave_bytes(&input[..taken], &mut output);
-    if let Wrote::Length(size) = wrote {
+    if let Ok(size) = soroluzko::weave_bytes(&input[..taken], &mut output) {
         io::write_all(1, &output[..size]);
     }
 }

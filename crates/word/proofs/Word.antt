@@ -8,11 +8,11 @@ use native.Mathlib.Omega.{arith}
 use borrow.Author.Tests.{eq-eqb, ne_eqb}
 use lib.Arith.{digits_lt, digits_div, digits_mod}
 use Rattle.model.specs.declared.Refusal.{Refusal}
-use Rattle.model.specs.declared.Checked.{Checked}
-use Rattle.model.specs.declared.Checked.TheVariants.{Fine, Bad}
-use Rattle.model.specs.Refusal.{Rule, checked, Told, values, refused, tell}
+use Rattle.model.specs.Refusal.{Checked, Rule, number_of, checked, Told, values, refused, tell}
+use Rattle.std.specs.Prelude.{Ok, Err}
 use Rattle.model.proofs.Groups.{Gives, gives_bad}
-use Rattle.word.specs.Word.{fields, unfields, place_bits, word, unword, Carried, Fit, none, more, Held, JudgeHeld, enforcing, conflicting, refusing}
+use Rattle.word.specs.Word.{fields, unfields, place_bits, word, unword}
+use Rattle.word.specs.Held.{Carried, Fit, none, more, Held}
 
 -- a sum's low digit, and what is above it
 turned : (b x f : ℕ) → x + b * f ≡ f * b + x
@@ -44,7 +44,7 @@ module _ (ws : List ℕ) (y : ℕ) where
   unfolding unword
   unword_values e = rw (eq-eqb (y % 256) 0 e)
 
-  pub unword_refused : ¬ (y % 256 ≡ 0) → unword ws y ≡ refused (record { number = y % 256; place = y / 256 % 2 ^ place_bits })
+  pub unword_refused : ¬ (y % 256 ≡ 0) → unword ws y ≡ refused (y % 256) (y / 256 % 2 ^ place_bits)
   unfolding unword
   unword_refused f = rw (ne_eqb (y % 256) 0 f)
 
@@ -56,15 +56,15 @@ word_kept ws (values vs) h =
   where
     above : (f : ℕ) → 256 * f / 256 ≡ f
     above f = omega arith
-word_kept ws (refused r) h =
-    unword_refused ws (r.number + 256 * r.place) (λ e. omega (arith, h.given, p))
-    ∙ (λ i. refused (record { number = p i; place = q i }))
+word_kept ws (refused number place) h =
+    unword_refused ws (number + 256 * place) (λ e. omega (arith, h.given, p))
+    ∙ (λ i. refused (p i) (q i))
   where
-    p : (r.number + 256 * r.place) % 256 ≡ r.number
-    p = low 256 r.number r.place h.number
+    p : (number + 256 * place) % 256 ≡ number
+    p = low 256 number place h.byte
 
-    q : (r.number + 256 * r.place) / 256 % 2 ^ place_bits ≡ r.place
-    q = ap (λ (z : ℕ). z % 2 ^ place_bits) (high 256 r.number r.place h.number) ∙ mod-eq_of_lt h.place
+    q : (number + 256 * place) / 256 % 2 ^ place_bits ≡ place
+    q = ap (λ (z : ℕ). z % 2 ^ place_bits) (high 256 number place h.byte) ∙ mod-eq_of_lt h.bits
 
 -- ---- the upper bits are 0
 
@@ -81,31 +81,32 @@ fields_low (w ∷ ws) [] h = elim h [ ]
 fields_low (w ∷ ws) (x ∷ vs) (more h f) = rw (turned (2 ^ w) x (fields ws vs)) (digits_lt (fields_low ws vs f) h)
 
 -- a refusal leaves the upper half 0, and so do fields of at most 24 bits together
-pub refused_low : (ws : List ℕ) (r : Refusal) → Carried r → word ws (refused r) < 2 ^ 32
+pub refused_low : (ws : List ℕ) (number place : ℕ) → Carried number place → word ws (refused number place) < 2 ^ 32
 unfolding word
-refused_low ws r h = omega (arith, h.number, h.place)
+refused_low ws number place h = omega (arith, h.byte, h.bits)
 
 pub word_low : (ws : List ℕ) → room ws ≤ 2 ^ 24 → (t : Told) → Held ws t → word ws t < 2 ^ 32
 unfolding word
 word_low ws b (values vs) h = omega (arith, fields_low ws vs h)
-word_low ws b (refused r) h = refused_low ws r h
+word_low ws b (refused number place) h = refused_low ws number place h
 
 -- ---- what has room
 
+-- one value that has room in 8 bits has room in 24
+pub held_wider : (t : Told) → Held (8 ∷ []) t → Held (24 ∷ []) t
+held_wider (values []) h = elim h [ ]
+held_wider (values (x ∷ [])) h = more (omega (arith, fit_first h)) none
+held_wider (values (x ∷ y ∷ vs)) h = let g = fit_rest h in elim g [ ]
+held_wider (refused number place) h = h
+
+-- a refusal that a word can carry
+abbrev pub RefusalCarried : Refusal → Type 0
+RefusalCarried r = Carried (number_of r.fault) r.place
+
 -- what is told has room where the values have, and where each refusal has
-pub told_held : (ws : List ℕ) (rs : List Rule) (vs : List ℕ) → Gives Carried rs → (checked rs ≡ Fine → Fit ws vs) → Held ws (tell (checked rs) vs)
+pub told_held : (ws : List ℕ) (rs : List Rule) (vs : List ℕ) → Gives RefusalCarried rs → (checked rs ≡ Ok tt → Fit ws vs) → Held ws (tell (checked rs) vs)
 told_held ws rs vs g f = go (checked rs) refl
   where
     go : (c : Checked) → checked rs ≡ c → Held ws (tell c vs)
-    go Fine e = f e
-    go (Bad r) e = gives_bad Carried rs g r e
-
--- so the numbers that the code puts together are small
-pub domains_held : {d : ℕ} → JudgeHeld (values (0 ∷ d ∷ [])) → d < 2 ^ 16
-domains_held (enforcing d h) = h
-
-pub conflict_held : {i x : ℕ} → JudgeHeld (values (1 ∷ i ∷ x ∷ [])) → (i < 2 ^ 16) × (x < 2 ^ 8)
-conflict_held (conflicting i x h l) = (h, l)
-
-pub refusal_held : {r : Refusal} → JudgeHeld (refused r) → Carried r
-refusal_held (refusing r h) = h
+    go (Ok _) e = f e
+    go (Err r) e = gives_bad RefusalCarried rs g r e

@@ -8,13 +8,11 @@ use native.Mathlib.Omega.{arith}
 use borrow.Author.Tests.{ltb-true, eq-eqb, ne_eqb}
 use lib.Dec.{eqb, ltb}
 use lib.ListN.{get_or}
-use Rattle.model.specs.declared.Refusal.{Refusal}
-use Rattle.model.specs.declared.Checked.{Checked}
-use Rattle.model.specs.declared.Checked.TheVariants.{Fine, Bad}
+use Rattle.model.specs.Refusal.{Checked, checked, Told, values, refused, tell}
+use Rattle.std.specs.Prelude.{Ok, Err}
 use Rattle.model.specs.Matrix.{cell}
 use Rattle.model.specs.Alike.{alike_test}
 use Rattle.model.specs.Policy.{Policy, answer}
-use Rattle.model.specs.Refusal.{refusal, checked, Told, values, refused, tell}
 use Rattle.model.specs.Rules.{whole_rules}
 use Rattle.model.proofs.Built.{built_few}
 use Rattle.model.proofs.Groups.{values_refused, gives_bad, groups_fine}
@@ -26,10 +24,10 @@ use Rattle.build.specs.Build.{built_from, build_rules, build_told}
 use Rattle.conflicts.specs.Conflict.{conflict}
 use Rattle.judge.specs.Judge.{judge_rules, verdict, judge_told}
 use Rattle.judge.proofs.Exits.{judgeable}
-use Rattle.word.specs.Word.{fields, unfields, word, unword, Carried, none, more, Held, JudgeHeld, enforcing, conflicting, refusing}
+use Rattle.word.specs.Word.{fields, unfields, word, unword}
+use Rattle.word.specs.Held.{Carried, none, more, Held, JudgeHeld, enforcing, conflicting, refusing}
 use Rattle.words.specs.Calls.{judge_fields, RefusalTold, RefusalKept, AskKept, AlikeKept, BuildKept, JudgeKept}
-use Rattle.word.proofs.Word.{unword_values, unword_refused, word_kept, refused_low, word_low, told_held}
-use Rattle.word.proofs.Carried.{carried}
+use Rattle.word.proofs.Word.{unword_values, unword_refused, word_kept, refused_low, word_low, told_held, RefusalCarried}
 use Rattle.words.proofs.Carried.{ask_carried, alike_carried, build_carried, judge_carried}
 
 bit : (b : Bool) → cond b 1 0 < 2 ^ 1
@@ -55,15 +53,16 @@ build_held n k m x y = told_held (8 ∷ []) (build_rules n k m x y) ((built_from
 -- ---- a refusal
 
 pub refusal_told : RefusalTold
-unfolding refusal
 refusal_told ws w = (λ h. unword_refused ws w (λ e. omega arith), λ e. go e (ℕ_discrete (w % 256) 0))
   where
-    go : {r : Refusal} → unword ws w ≡ refused r → Dec (w % 256 ≡ 0) → 0 < w % 256
-    go {r} e (yes z) = absurd (values_refused (unfields ws (w / 256)) r (sym (unword_values ws w z) ∙ e))
+    go : {number place : ℕ} → unword ws w ≡ refused number place → Dec (w % 256 ≡ 0) → 0 < w % 256
+    go {number} {place} e (yes z) = absurd (values_refused (unfields ws (w / 256)) number place (sym (unword_values ws w z) ∙ e))
     go e (no f) = omega arith
 
 pub refusal_kept : RefusalKept
-refusal_kept ws number place h l b = let c = carried number place h l b in (word_kept ws _ c, refused_low ws _ c)
+refusal_kept ws number place h l b =
+    let c : Carried number place = record { given = h; byte = l; bits = b } in
+    (word_kept ws (refused number place) c, refused_low ws number place c)
 
 -- ---- the calls
 
@@ -89,13 +88,13 @@ held_kept (enforcing d h) =
 held_kept (conflicting i x h l) =
     rw (ne_eqb (256 * (1 + 2 ^ 8 * (i + 2 ^ 16 * (x + 2 ^ 8 * 0))) / 256 % 256) 0 (λ e. omega arith))
     (word_kept wide (values (1 ∷ i ∷ x ∷ [])) (more (omega arith) (more h (more l none))))
-held_kept (refusing r h) = word_kept (judge_fields (r.number + 256 * r.place)) (refused r) h
+held_kept (refusing number place h) = word_kept (judge_fields (number + 256 * place)) (refused number place) h
 
 held_low : {t : Told} → JudgeHeld t → word wide t < 2 ^ 40
 unfolding word fields
 held_low (enforcing d h) = omega arith
 held_low (conflicting i x h l) = omega arith
-held_low (refusing r h) = omega (arith, h.number, h.place)
+held_low (refusing number place h) = omega (arith, h.byte, h.bits)
 
 pub judge_held : (n k : ℕ) (m : List ℕ) (P : Policy) → JudgeHeld (judge_told n k m P)
 unfolding judge_told verdict judge_rules
@@ -106,13 +105,13 @@ judge_held n k m P = go (checked (judge_rules n k m P)) refl (ltb i (n * k * n))
 
     go : (c : Checked) → checked (judge_rules n k m P) ≡ c → (b : Bool) → ltb i (n * k * n) ≡ b
         → JudgeHeld (tell c (cond b (1 ∷ i ∷ get_or m i 0 ∷ []) (0 ∷ P.domains ∷ [])))
-    go Fine e true f =
+    go (Ok _) e true f =
         let J = judgeable n k m P e in
         let h = ltb-true i (n * k * n) f in
         let l = J.0.laid in
         conflicting i (get_or m i 0) (omega (arith, (small l.entities l.rights l.entities).cells)) (omega (arith, J.0.below i (omega (arith, l.size))))
-    go Fine e false f = enforcing P.domains (omega (arith, (judgeable n k m P e).1.few))
-    go (Bad r) e b f = refusing r (gives_bad Carried (judge_rules n k m P) (judge_carried n k m P) r e)
+    go (Ok _) e false f = enforcing P.domains (omega (arith, (judgeable n k m P e).1.few))
+    go (Err r) e b f = refusing _ _ (gives_bad RefusalCarried (judge_rules n k m P) (judge_carried n k m P) r e)
 
 pub judge_kept : JudgeKept
 judge_kept n k m P = let h = judge_held n k m P in (held_kept h, held_low h)

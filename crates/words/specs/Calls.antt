@@ -1,7 +1,7 @@
 -- The words of the calls, and that they lose nothing (include/soroluzko.h). Assumes nothing.
 use Rattle.std.specs.Prelude.{◌≡◌, ◌↔◌, cond, List, [], ◌∷◌, ℕ, ◌/◌, ◌%◌, ◌^◌, ◌<◌, eqb}
 use Rattle.model.specs.Policy.{Policy}
-use Rattle.model.specs.Refusal.{refusal, refused}
+use Rattle.model.specs.Refusal.{refused}
 use Rattle.ask.specs.Ask.{ask_told}
 use Rattle.alike.specs.Compare.{alike_told}
 use Rattle.build.specs.Build.{build_told}
@@ -30,11 +30,11 @@ judge_fields w = cond (eqb (w / 256 % 256) 0) (8 ∷ 16 ∷ []) (8 ∷ 16 ∷ 8 
 
 -- a word tells of a refusal exactly if its low byte is not 0, whatever its fields are: that is the number, the 24 bits above it the place
 abbrev pub RefusalTold : Type 0
-RefusalTold = (ws : List ℕ) (w : ℕ) → (0 < w % 256) ↔ (unword ws w ≡ refused (refusal (w % 256) (w / 256 % 16777216)))
+RefusalTold = (ws : List ℕ) (w : ℕ) → (0 < w % 256) ↔ (unword ws w ≡ refused (w % 256) (w / 256 % 16777216))
 
 -- so every number of a byte but 0, with every place of 24 bits, is kept
 abbrev pub RefusalKept : Type 0
-RefusalKept = (ws : List ℕ) (number place : ℕ) → 0 < number → number < 256 → place < 16777216 → Kept ws 32 (refused (refusal number place))
+RefusalKept = (ws : List ℕ) (number place : ℕ) → 0 < number → number < 256 → place < 16777216 → Kept ws 32 (refused number place)
 
 -- nothing is lost, and the upper bits are 0
 abbrev pub AskKept : Type 0

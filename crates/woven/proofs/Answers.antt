@@ -7,27 +7,23 @@ use native.Mathlib.Omega.{arith}
 use borrow.Author.Tests.{ltb-true}
 use lib.Dec.{eqb}
 use lib.ListN.{length, take}
+use Rattle.model.specs.declared.Fault.TheVariants.{Unlogged, AssignmentRoom, Room, FileForm}
 use Rattle.model.specs.declared.Refusal.{Refusal}
-use Rattle.model.specs.declared.Checked.{Checked}
-use Rattle.model.specs.declared.Checked.TheVariants.{Fine, Bad}
+use Rattle.model.specs.Refusal.{Checked, Rule, checked, refusal, cell_refusal, told_refusal, over}
+use Rattle.std.specs.Prelude.{Ok, Err}
 use Rattle.model.specs.Matrix.{cell, Holds}
 use Rattle.model.specs.Policy.{written, Within}
-use Rattle.model.specs.Refusal.{Rule, checked, refusal, cell_refusal, refused, over}
 use Rattle.model.specs.Rules.{lowest, lowest_rule, size_rules, matrix_rules, full_rules, whole_rules, room_rules}
 use Rattle.model.proofs.Built.{built_few, built_valid}
-use Rattle.model.proofs.Groups.{fine_not_bad, group_fine, group_bad, gives_bad, told_fine, told_bad}
+use Rattle.model.proofs.Groups.{fine_not_bad, group_fine, group_bad, gives_bad, told_fine, told_bad, refusal_told}
 use Rattle.model.proofs.Places.{Small, small}
 use Rattle.model.proofs.Rules.{lowest_some, sizes_pass, matrix_pass, room_pass, whole_fine, whole_full}
 use Rattle.layout.specs.Text.{policy_text}
 use Rattle.layout.specs.Files.{MatrixFile, MatrixFormed, Malformed}
 use Rattle.layout.proofs.Contents.{matrix_short, policy_short}
 use Rattle.layout.proofs.Faults.{place_short}
-use Rattle.build.specs.declared.Built.{Built}
-use Rattle.build.specs.declared.Built.TheVariants.{Domains, Refused}
-use Rattle.build.specs.Build.{built_from, table_size, build_rules, build_told, Builds}
-use Rattle.files.specs.declared.ReadMatrix.{ReadMatrix}
-use Rattle.files.specs.declared.ReadMatrix.TheVariants.{Matrix, Refused as MatrixRefused}
-use Rattle.files.specs.Read.{read_matrix_told, matrix_room, MatrixRead, formed, malformed}
+use Rattle.build.specs.Build.{Built, built_from, table_size, build_rules, build_told, Builds}
+use Rattle.files.specs.Read.{read_matrix_told, matrix_room, MatrixRead, formed, malformed, ReadMatrix, of_matrix}
 use Rattle.build.proofs.Written.{policy_written}
 use Rattle.filed.proofs.Read.{matrix_filled}
 use Rattle.woven.specs.Weave.{refusal_text, answer_text, longest, Woven}
@@ -40,9 +36,8 @@ formed-short s (n, k, m, f) = matrix_short f
 pub put_same : {size : ℕ} {t t' x' : List ℕ} (x : List ℕ) → t ≡ t' → (size ≡ length t) × (x' ≡ over t x) → (size ≡ length t') × (x' ≡ over t' x)
 put_same {size} {x' = x'} x e = subst (λ (z : List ℕ). (size ≡ length z) × (x' ≡ over z x)) e
 
--- a refusal whose number has two digits and whose place has five
+-- a refusal whose place has five digits
 pub record Shown (r : Refusal) : Type 0 where
-  pub number : r.number < 100
   pub place : r.place < 100000
 
 module _ {n k : ℕ} {m : List ℕ} (f : Holds n k 3 m) where
@@ -63,20 +58,20 @@ module _ {n k : ℕ} {m : List ℕ} (f : Holds n k 3 m) where
   only-four x y h l = go (checked (full_rules n k m)) refl
     where
       rooms : List Rule
-      rooms = room_rules 10 x n ++ room_rules 11 y (table_size n k m)
+      rooms = room_rules AssignmentRoom x n ++ room_rules Room y (table_size n k m)
 
-      roomy : checked rooms ≡ Fine
+      roomy : checked rooms ≡ Ok tt
       roomy =
-          group_fine (room_rules 10 x n) (room_rules 11 y (table_size n k m)) (room_pass 10 x n (omega (arith, f.laid.entities)))
-          ∙ room_pass 11 y (table_size n k m) (omega (arith, (small few f.laid.rights few).cells))
+          group_fine (room_rules AssignmentRoom x n) (room_rules Room y (table_size n k m)) (room_pass AssignmentRoom x n (omega (arith, f.laid.entities)))
+          ∙ room_pass Room y (table_size n k m) (omega (arith, (small few f.laid.rights few).cells))
 
       go : (c : Checked) → checked (full_rules n k m) ≡ c → checked (whole_rules n k m ++ rooms) ≡ checked (full_rules n k m)
-      go Fine e = group_fine (whole_rules n k m) rooms (whole_four ∙ e) ∙ roomy ∙ sym e
-      go (Bad r) e = group_bad (whole_rules n k m) rooms r (whole_four ∙ e) ∙ sym e
+      go (Ok _) e = group_fine (whole_rules n k m) rooms (whole_four ∙ e) ∙ roomy ∙ sym e
+      go (Err r) e = group_bad (whole_rules n k m) rooms r (whole_four ∙ e) ∙ sym e
 
   -- ---- 4 does not apply
 
-  module _ (fine : checked (full_rules n k m) ≡ Fine) where
+  module _ (fine : checked (full_rules n k m) ≡ Ok tt) where
     pub built-within : Within n k (built_from n k m)
     built-within = record {
       entities = f.laid.entities;
@@ -92,15 +87,15 @@ module _ {n k : ℕ} {m : List ℕ} (f : Holds n k 3 m) where
 
   -- ---- 4 applies
 
-  module _ (r : Refusal) (bad : checked (full_rules n k m) ≡ Bad r) where
+  module _ (r : Refusal) (bad : checked (full_rules n k m) ≡ Err r) where
     pub answer-refused : answer_text n k m ≡ refusal_text r
     unfolding answer_text
     answer-refused = rw bad
 
     -- at a cell
-    pub four_at : (i : ℕ) × (i < length m) × (r ≡ cell_refusal 4 k n i)
+    pub four_at : (i : ℕ) × (i < length m) × (r ≡ cell_refusal Unlogged k n i)
     unfolding full_rules lowest_rule
-    four_at = gives_bad (λ (q : Refusal). (i : ℕ) × (i < length m) × (q ≡ cell_refusal 4 k n i)) (full_rules n k m)
+    four_at = gives_bad (λ (q : Refusal). (i : ℕ) × (i < length m) × (q ≡ cell_refusal Unlogged k n i)) (full_rules n k m)
         (λ e. (lowest (eqb 2) m, ltb-true (lowest (eqb 2) m) (length m) (sym (lowest_some (eqb 2) m) ∙ e), refl), λ _. tt) r bad
 
     pub four-shown : Shown r
@@ -108,7 +103,7 @@ module _ {n k : ℕ} {m : List ℕ} (f : Holds n k 3 m) where
     four-shown =
         let (i, h, e) = four_at in
         let l = f.laid in
-        subst Shown (sym e) (record { number = omega arith; place = omega (arith, h, l.size, (small l.entities l.rights l.entities).cells) })
+        subst Shown (sym e) (record { place = omega (arith, h, l.size, (small l.entities l.rights l.entities).cells) })
 
 -- ---- what the build answered, over buffers with room for every policy, and left in them
 
@@ -122,7 +117,7 @@ pub record Stands (n k : ℕ) (m : List ℕ) (d : ℕ) (s t : List ℕ) : Type 0
   pub answer : policy_text n k (written n k d s t) ≡ answer_text n k m
 
 module _ {n k : ℕ} {m : List ℕ} (f : Holds n k 3 m) (s t s' t' : List ℕ) (hs : 64 ≤ length s) (ht : 32768 ≤ length t) where
-  pub built-stands : {r : Built} (d : ℕ) → r ≡ Domains d → Builds n k m s t r s' t' → Stands n k m d s' t'
+  pub built-stands : {r : Built} (d : ℕ) → r ≡ Ok d → Builds n k m s t r s' t' → Stands n k m d s' t'
   unfolding build_told
   built-stands d q w =
       let b = subst (λ (r : Built). Builds n k m s t r s' t') q w in
@@ -140,7 +135,7 @@ module _ {n k : ℕ} {m : List ℕ} (f : Holds n k 3 m) (s t s' t' : List ℕ) (
         answer = sym (answer-built f fine ∙ ap (policy_text n k) same);
       }
 
-  pub built-refused : {a : Built} (r : Refusal) → a ≡ Refused r → Builds n k m s t a s' t' → Shown r × (refusal_text r ≡ answer_text n k m)
+  pub built-refused : {a : Built} (r : Refusal) → a ≡ Err r → Builds n k m s t a s' t' → Shown r × (refusal_text r ≡ answer_text n k m)
   unfolding build_told
   built-refused r q w =
       let b = subst (λ (a : Built). Builds n k m s t a s' t') q w in
@@ -151,24 +146,24 @@ module _ {n k : ℕ} {m : List ℕ} (f : Holds n k 3 m) (s t s' t' : List ℕ) (
 
 module _ (s x x' : List ℕ) where
   -- a matrix: it stands in the buffer
-  pub read-file : {a : ReadMatrix} (n k : ℕ) → a ≡ Matrix n k → MatrixRead s x (read_matrix_told a) x' → MatrixFile n k (take (n * k * n) x') s
+  pub read-file : {a : ReadMatrix} (n k : ℕ) → a ≡ Ok (of_matrix n k) → MatrixRead s x (read_matrix_told a) x' → MatrixFile n k (take (n * k * n) x') s
   read-file n k q w = (matrix_filled n k s x x' (subst (λ (a : ReadMatrix). MatrixRead s x (read_matrix_told a) x') q w)).0
 
   -- a refusal: it is 12
-  pub read-refused : {a : ReadMatrix} (r : Refusal) → a ≡ MatrixRefused r → 32768 ≤ length x → MatrixRead s x (read_matrix_told a) x'
+  pub read-refused : {a : ReadMatrix} (r : Refusal) → a ≡ Err r → 32768 ≤ length x → MatrixRead s x (read_matrix_told a) x'
       → Shown r × Woven s (refusal_text r)
   unfolding refusal
   read-refused r q h w = go (subst (λ (a : ReadMatrix). MatrixRead s x (read_matrix_told a) x') q w)
     where
-      twelve : (p : ℕ) → Malformed MatrixFormed s p → r ≡ refusal 12 p → Shown r × Woven s (refusal_text r)
+      twelve : (p : ℕ) → Malformed MatrixFormed s p → r ≡ refusal FileForm p → Shown r × Woven s (refusal_text r)
       twelve p m e = (
-        subst Shown (sym e) (record { number = omega arith; place = omega (arith, place_short MatrixFormed 33097 formed-short m.place) }),
+        subst Shown (sym e) (record { place = omega (arith, place_short MatrixFormed 33097 formed-short m.place) }),
         Woven.malformed p m (ap refusal_text e),
       )
 
-      go : MatrixRead s x (refused r) x' → Shown r × Woven s (refusal_text r)
+      go : MatrixRead s x (told_refusal r) x' → Shown r × Woven s (refusal_text r)
       go (formed n k m f t _) =
           let l = f.matrix.laid in
-          let roomy = room_pass 11 (length x) (length m) (omega (arith, l.size, (small l.entities l.rights l.entities).cells)) in
+          let roomy = room_pass Room (length x) (length m) (omega (arith, l.size, (small l.entities l.rights l.entities).cells)) in
           absurd (fine_not_bad (matrix_room m x) r roomy (told_bad (matrix_room m x) r (n ∷ k ∷ []) t))
-      go (malformed p m t _) = let e : r ≡ refusal 12 p = cc in twelve p m e
+      go (malformed p m t _) = twelve p m (refusal_told r (refusal FileForm p) t)

@@ -9,19 +9,19 @@ use native.Mathlib.Omega.{arith}
 use borrow.Author.Tests.{lt-ltb, eq-eqb, ne_eqb}
 use lib.Dec.{T, eqb, ltb}
 use lib.ListN.{length, get_or, take}
-use Rattle.model.specs.declared.Checked.{Checked}
-use Rattle.model.specs.declared.Checked.TheVariants.{Fine, Bad}
+use Rattle.model.specs.declared.Fault.TheVariants.{Unlogged, Room, FileForm}
+use Rattle.model.specs.Refusal.{Checked, number_of, checked, refusal, cell_refusal, single}
+use Rattle.std.specs.Prelude.{Ok, Err}
 use Rattle.model.specs.Below.{all, any, count, first, tab}
 use Rattle.model.specs.Matrix.{cell}
 use Rattle.model.specs.Alike.{rows_test, alike_test}
 use Rattle.model.specs.Classes.{smallest, is_smallest, classes, class_of, member_of}
 use Rattle.model.specs.Policy.{written, domain_of}
 use Rattle.model.specs.Built.{table_of, built}
-use Rattle.model.specs.Refusal.{checked, refusal, cell_refusal}
 use Rattle.model.specs.Rules.{lowest, lowest_rule, matrix_rules, full_rules, room_rules}
 use Rattle.model.proofs.Below.{first_is}
 use Rattle.model.proofs.Places.{small}
-use Rattle.model.proofs.Groups.{checked_applies, told_fine, tell_fine, tell_bad, held_bad}
+use Rattle.model.proofs.Groups.{told_apart, single_one, checked_applies, told_fine, tell_fine, tell_bad, held_bad}
 use Rattle.model.proofs.Rules.{lowest_bad, matrix_fine, room_pass, room_fine, whole_pass}
 use Rattle.layout.specs.Text.{each, line, matrix_text, policy_text}
 use Rattle.layout.specs.Files.{MatrixFile, PolicyFile, MatrixFormed, PolicyFormed}
@@ -31,11 +31,9 @@ use Rattle.layout.proofs.Files.{matrix_formed, matrix_malformed}
 use Rattle.layout.proofs.Contents.{matrix_one, policy_short}
 use Rattle.layout.proofs.Faults.{place_short, cut_malformed, uncut_malformed, cut_formed, uncut_formed}
 use Rattle.build.specs.Build.{built_from}
-use Rattle.files.specs.declared.Wrote.{Wrote}
-use Rattle.files.specs.declared.Wrote.TheVariants.{Length, Refused}
-use Rattle.files.specs.Write.{wrote_told, Written}
+use Rattle.files.specs.Write.{wrote_told, Written, Wrote}
 use Rattle.filed.proofs.Read.{first_bytes, later_bytes, held_over}
-use Rattle.filed.proofs.Write.{wrote_apart, write_unique, file_written}
+use Rattle.filed.proofs.Write.{write_unique, file_written}
 use Rattle.woven.specs.Weave.{five, refusal_text, answer_text, Woven, formed, malformed, longest, Weaves}
 use Rattle.woven.specs.Claims.{WovenTotal, WovenUnique, WovenPolicy, WovenRefused, WovenOnly, WovenCalls, WovenCut, example, p10, WovenExample}
 use Rattle.woven.specs.Claims.{WeaveWrites, WeaveKeeps, WeaveUnique, WeaveAlone}
@@ -49,7 +47,7 @@ woven_total s = go (dec_lt (length s) (reach matrix_layout s))
   where
     go : Dec (length s < reach matrix_layout s) → (t : List ℕ) × Woven s t
     go (yes h) = let (n, k, m, f) = matrix_formed s (reach matrix_layout s) refl h in (answer_text n k m, formed n k m f refl)
-    go (no h) = let p = reach matrix_layout s in (refusal_text (refusal 12 p), malformed p (matrix_malformed s p refl (omega arith)) refl)
+    go (no h) = let p = reach matrix_layout s in (refusal_text (refusal FileForm p), malformed p (matrix_malformed s p refl (omega arith)) refl)
 
 pub woven_unique : WovenUnique
 woven_unique s t t' (formed n k m f e) (formed n' k' m' g q) =
@@ -57,13 +55,13 @@ woven_unique s t t' (formed n k m f e) (formed n' k' m' g q) =
     e ∙ (λ i. answer_text (a i) (b i) (c i)) ∙ sym q
 woven_unique s t t' (formed n k m f e) (malformed p w q) = absurd (w.not (n, k, m, f))
 woven_unique s t t' (malformed p w e) (formed n k m f q) = absurd (w.not (n, k, m, f))
-woven_unique s t t' (malformed p w e) (malformed o z q) = e ∙ ap (λ (i : ℕ). refusal_text (refusal 12 i)) (place_one w.place z.place) ∙ sym q
+woven_unique s t t' (malformed p w e) (malformed o z q) = e ∙ ap (λ (i : ℕ). refusal_text (refusal FileForm i)) (place_one w.place z.place) ∙ sym q
 
 -- the answer to the file of m
 answered : {n k : ℕ} {m s t : List ℕ} → MatrixFile n k m s → Woven s t → t ≡ answer_text n k m
 answered {n} {k} {m} {s} {t} f w = woven_unique s t (answer_text n k m) w (formed n k m f refl)
 
-policy_answered : {n k : ℕ} {m s t : List ℕ} → MatrixFile n k m s → checked (full_rules n k m) ≡ Fine → t ≡ answer_text n k m
+policy_answered : {n k : ℕ} {m s t : List ℕ} → MatrixFile n k m s → checked (full_rules n k m) ≡ Ok tt → t ≡ answer_text n k m
     → PolicyFile n k (built_from n k m) t
 policy_answered {n} {k} {m} {s} {t} f fine e = record { within = built-within f.matrix fine; text = e ∙ answer-built f.matrix fine }
 
@@ -72,20 +70,20 @@ woven_policy n k m s t f g w = policy_answered f (sym (whole_four f.matrix) ∙ 
 
 -- 4 with the lowest unlogged cell
 four_bad : (n k : ℕ) (m : List ℕ) (i : ℕ) → i < length m → get_or m i 0 ≡ 2 → ((j : ℕ) → j < i → get_or m j 0 < 2)
-    → Bad (cell_refusal 4 k n i) ≡ checked (full_rules n k m)
+    → Err (cell_refusal Unlogged k n i) ≡ checked (full_rules n k m)
 unfolding full_rules lowest
-four_bad n k m i h e b = lowest_bad (eqb 2) m (cell_refusal 4 k n) i (sym lowest_is) h
+four_bad n k m i h e b = lowest_bad (eqb 2) m (cell_refusal Unlogged k n) i (sym lowest_is) h
   where
     lowest_is : first (length m) (λ j. eqb 2 (get_or m j 0)) ≡ i
     lowest_is = first_is (length m) (λ j. eqb 2 (get_or m j 0)) i h (subst T (sym (eq-eqb 2 (get_or m i 0) (sym e))) tt)
         (λ j l. let low = b j l in subst T (ne_eqb 2 (get_or m j 0) (λ q. omega arith)))
 
 pub woven_refused : WovenRefused
-woven_refused s t i w = (gap, λ z. woven_unique s t (refusal_text (refusal 12 i)) w (malformed i z refl))
+woven_refused s t i w = (gap, λ z. woven_unique s t (refusal_text (refusal FileForm i)) w (malformed i z refl))
   where
     gap : (n k : ℕ) (m : List ℕ) → MatrixFile n k m s → i < length m → get_or m i 0 ≡ 2 → ((j : ℕ) → j < i → get_or m j 0 < 2)
-        → t ≡ refusal_text (cell_refusal 4 k n i)
-    gap n k m f h e b = answered f w ∙ answer-refused f.matrix (cell_refusal 4 k n i) (sym (four_bad n k m i h e b))
+        → t ≡ refusal_text (cell_refusal Unlogged k n i)
+    gap n k m f h e b = answered f w ∙ answer-refused f.matrix (cell_refusal Unlogged k n i) (sym (four_bad n k m i h e b))
 
 pub woven_only : WovenOnly
 unfolding refusal_text refusal cell_refusal
@@ -94,8 +92,8 @@ woven_only s t (formed n k m f e) = go (checked (full_rules n k m)) refl
   where
     go : (c : Checked) → checked (full_rules n k m) ≡ c
         → PolicyFormed t ⊎ ((p : ℕ) × (p < 100000) × ((t ≡ line (78 ∷ 79 ∷ 49 ∷ 50 ∷ five p)) ⊎ (t ≡ line (78 ∷ 79 ∷ 48 ∷ 52 ∷ five p))))
-    go Fine q = inl (n, k, built_from n k m, policy_answered f q e)
-    go (Bad r) q =
+    go (Ok _) q = inl (n, k, built_from n k m, policy_answered f q e)
+    go (Err r) q =
         let (i, h, z) = four_at f.matrix r q in
         let l = f.matrix.laid in
         inr (i, omega (arith, h, l.size, (small l.entities l.rights l.entities).cells), inr (e ∙ answer-refused f.matrix r q ∙ ap refusal_text z))
@@ -124,7 +122,7 @@ woven_cut s t = (long, short)
     short (malformed p w e) = malformed p (cut_malformed MatrixFormed 33097 formed-short s p w) e
 
 -- the file of nine cells of three entities
-nine : (m s : List ℕ) → length m ≡ 9 → checked (matrix_rules 3 1 m) ≡ Fine → s ≡ matrix_text 3 1 m → MatrixFile 3 1 m s
+nine : (m s : List ℕ) → length m ≡ 9 → checked (matrix_rules 3 1 m) ≡ Ok tt → s ≡ matrix_text 3 1 m → MatrixFile 3 1 m s
 nine m s size fine text = record {
   matrix = record {
     laid = record { entities = omega arith; right = omega arith; rights = omega arith; size = size };
@@ -152,17 +150,17 @@ woven_short {s} {t} (malformed p w e) = omega (arith, ap length e)
 woven_short {s} {t} (formed n k m f e) = go (checked (full_rules n k m)) refl
   where
     go : (c : Checked) → checked (full_rules n k m) ≡ c → length t ≤ longest
-    go Fine q = policy_short (policy_answered f q e)
-    go (Bad r) q = omega (arith, ap length (e ∙ answer-refused f.matrix r q))
+    go (Ok _) q = policy_short (policy_answered f q e)
+    go (Err r) q = omega (arith, ap length (e ∙ answer-refused f.matrix r q))
 
 -- ---- the call
 
 pub weave_writes : WeaveWrites
 weave_writes s x x' r (t, w, z) h =
-    let fine = room_pass 11 (length x) longest h in
-    let e = held_over (checked (room_rules 11 (length x) longest)) t x x' fine z.left in (
+    let fine = room_pass Room (length x) longest h in
+    let e = held_over (checked (room_rules Room (length x) longest)) t x x' fine z.left in (
       length t,
-      wrote_apart r (Length (length t)) (z.told ∙ sym (tell_fine (checked (room_rules 11 (length x) longest)) fine (length t ∷ []))),
+      told_apart single single_one r (Ok (length t)) (z.told ∙ sym (tell_fine (checked (room_rules Room (length x) longest)) fine (length t ∷ []))),
       subst (Woven s) (sym (first_bytes t x x' (length t) refl e)) w,
       later_bytes t x x' (length t) refl e,
     )
@@ -170,15 +168,15 @@ weave_writes s x x' r (t, w, z) h =
 pub weave_keeps : WeaveKeeps
 unfolding room_rules
 weave_keeps s x x' r (t, w, z) h =
-    let c = checked (room_rules 11 (length x) longest) in
-    let bad : c ≡ Bad (refusal 11 longest) = checked_applies (ltb (length x) longest) (refusal 11 longest) Fine (lt-ltb (length x) longest h) in (
-      wrote_apart r (Refused (refusal 11 longest)) (z.told ∙ sym (tell_bad c (refusal 11 longest) bad (length t ∷ []))),
-      z.left ∙ sym (held_bad c (refusal 11 longest) bad t x),
+    let c = checked (room_rules Room (length x) longest) in
+    let bad : c ≡ Err (refusal Room longest) = checked_applies (ltb (length x) longest) (refusal Room longest) (Ok tt) (lt-ltb (length x) longest h) in (
+      told_apart single single_one r (Err (refusal Room longest)) (z.told ∙ sym (tell_bad c (refusal Room longest) bad (length t ∷ []))),
+      z.left ∙ sym (held_bad c (refusal Room longest) bad t x),
     )
 
 pub weave_unique : WeaveUnique
 weave_unique s x x' x'' r q (t, w, z) (t', w', z') =
-    let rules = room_rules 11 (length x) longest in
+    let rules = room_rules Room (length x) longest in
     let same = woven_unique s t' t w' w in
     write_unique rules t x x' x'' r q z (subst (λ (l : List ℕ). Written rules l x (wrote_told q) x'') same z')
 
@@ -187,9 +185,9 @@ weave_alone s s' x x' x'' r q e (t, w, z) =
     weave_unique s' x x' x'' r q (t, (woven_cut s' t).0 (subst (λ (l : List ℕ). Woven l t) e ((woven_cut s t).1 w)), z)
 
 -- the length that is told is that of bytes of the output
-pub weave_size : {s x x' : List ℕ} {r : Wrote} (size : ℕ) → r ≡ Length size → Weaves s x r x' → size ≤ length x
+pub weave_size : {s x x' : List ℕ} {r : Wrote} (size : ℕ) → r ≡ Ok size → Weaves s x r x' → size ≤ length x
 weave_size {s} {x} {x'} {r} size e (t, w, z) =
-    let rules = room_rules 11 (length x) longest in
+    let rules = room_rules Room (length x) longest in
     let (fine, q) = told_fine (checked rules) (size ∷ []) (length t ∷ []) (sym (ap wrote_told e) ∙ z.told) in
     let same : size ≡ length t = cc in
-    omega (arith, same, woven_short w, room_fine 11 (length x) longest fine)
+    omega (arith, same, woven_short w, room_fine Room (length x) longest fine)

@@ -1,16 +1,15 @@
 -- What is claimed of the program's answers, and of any result that meets the promise of `weave_bytes` (01, "The two files"). Assumes nothing.
-use Rattle.std.specs.Prelude.{◌≡◌, ◌↔◌, ◌⊎◌, List, [], ◌∷◌, ◌++◌, ℕ, ◌*◌, ◌≤◌, ◌<◌, length, get_or, take, drop}
+use Rattle.files.specs.Write.{Wrote}
+use Rattle.files.specs.Read.{of_matrix}
+use Rattle.std.specs.Prelude.{◌≡◌, ◌↔◌, ◌⊎◌, List, [], ◌∷◌, ◌++◌, ℕ, ◌*◌, ◌≤◌, ◌<◌, length, get_or, take, drop, Ok, Err}
+use Rattle.model.specs.declared.Fault.TheVariants.{Unlogged, Room, FileForm}
 use Rattle.model.specs.declared.Refusal.{Refusal}
 use Rattle.model.specs.Matrix.{Holds}
 use Rattle.model.specs.Policy.{written}
 use Rattle.model.specs.Refusal.{refusal, cell_refusal}
 use Rattle.layout.specs.Text.{line}
 use Rattle.layout.specs.Files.{MatrixFile, PolicyFile, MatrixFormed, PolicyFormed, Malformed}
-use Rattle.build.specs.declared.Built.TheVariants.{Domains, Refused as BuildRefused}
 use Rattle.build.specs.Build.{built_from, Builds}
-use Rattle.files.specs.declared.ReadMatrix.TheVariants.{Matrix, Refused as MatrixRefused}
-use Rattle.files.specs.declared.Wrote.{Wrote}
-use Rattle.files.specs.declared.Wrote.TheVariants.{Length, Refused}
 use Rattle.filed.specs.Files.{ReadsMatrix, WritesPolicy}
 use Rattle.woven.specs.Weave.{five, refusal_text, Woven, longest, Weaves}
 
@@ -31,8 +30,8 @@ WovenPolicy = (n k : ℕ) (m s t : List ℕ) → MatrixFile n k m s → Holds n 
 abbrev pub WovenRefused : Type 0
 WovenRefused = (s t : List ℕ) (i : ℕ) → Woven s t
     → ((n k : ℕ) (m : List ℕ) → MatrixFile n k m s → i < length m → get_or m i 0 ≡ 2 → ((j : ℕ) → j < i → get_or m j 0 < 2)
-    → t ≡ refusal_text (cell_refusal 4 k n i))
-    × (Malformed MatrixFormed s i → t ≡ refusal_text (refusal 12 i))
+    → t ≡ refusal_text (cell_refusal Unlogged k n i))
+    × (Malformed MatrixFormed s i → t ≡ refusal_text (refusal FileForm i))
 
 -- and there are no others: an answer is a policy's file, or begins with NO12 or NO04, and a place of five digits follows
 abbrev pub WovenOnly : Type 0
@@ -43,11 +42,11 @@ WovenOnly = (s t : List ℕ) → Woven s t
 -- one of them refuses, the answer is the line of its refusal
 abbrev pub WovenCalls : Type 0
 WovenCalls = (s x x' : List ℕ) → 32768 ≤ length x
-    → ((r : Refusal) → ReadsMatrix s x (MatrixRefused r) x' → Woven s (refusal_text r))
-    × ((n k : ℕ) → ReadsMatrix s x (Matrix n k) x' → (a b a' b' : List ℕ) → 64 ≤ length a → 32768 ≤ length b
-    → ((r : Refusal) → Builds n k (take (n * k * n) x') a b (BuildRefused r) a' b' → Woven s (refusal_text r))
-    × ((d size : ℕ) (f f' : List ℕ) → Builds n k (take (n * k * n) x') a b (Domains d) a' b'
-    → WritesPolicy n k (written n k d a' b') f (Length size) f' → Woven s (take size f')))
+    → ((r : Refusal) → ReadsMatrix s x (Err r) x' → Woven s (refusal_text r))
+    × ((n k : ℕ) → ReadsMatrix s x (Ok (of_matrix n k)) x' → (a b a' b' : List ℕ) → 64 ≤ length a → 32768 ≤ length b
+    → ((r : Refusal) → Builds n k (take (n * k * n) x') a b (Err r) a' b' → Woven s (refusal_text r))
+    × ((d size : ℕ) (f f' : List ℕ) → Builds n k (take (n * k * n) x') a b (Ok d) a' b'
+    → WritesPolicy n k (written n k d a' b') f (Ok size) f' → Woven s (take size f')))
 
 -- no more than 33,098 bytes are taken into account: the answer to these is the answer to all
 abbrev pub WovenCut : Type 0
@@ -79,11 +78,11 @@ WovenExample = (t : List ℕ)
 -- demand 2: over an output with room for every answer it writes the answer, tells its length, and later bytes stay
 abbrev pub WeaveWrites : Type 0
 WeaveWrites = (s x x' : List ℕ) (r : Wrote) → Weaves s x r x' → longest ≤ length x
-    → (size : ℕ) × (r ≡ Length size) × Woven s (take size x') × (drop size x' ≡ drop size x)
+    → (size : ℕ) × (r ≡ Ok size) × Woven s (take size x') × (drop size x' ≡ drop size x)
 
 -- demand 1: over any other it refuses with 11, and the output holds what it held
 abbrev pub WeaveKeeps : Type 0
-WeaveKeeps = (s x x' : List ℕ) (r : Wrote) → Weaves s x r x' → length x < longest → (r ≡ Refused (refusal 11 longest)) × (x' ≡ x)
+WeaveKeeps = (s x x' : List ℕ) (r : Wrote) → Weaves s x r x' → length x < longest → (r ≡ Err (refusal Room longest)) × (x' ≡ x)
 
 -- two results that meet the promise are equal, and so are the outputs; for two inputs too that begin with the same 33,098 bytes
 abbrev pub WeaveUnique : Type 0

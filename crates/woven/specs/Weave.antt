@@ -1,15 +1,13 @@
 -- What the program answers to an input: the built policy's file, or the line of a refusal (01, "The two files"). Assumes nothing.
-use Rattle.std.specs.Prelude.{◌≡◌, List, [], ◌∷◌, ◌++◌, ℕ, ◌/◌, ◌%◌, length}
+use Rattle.std.specs.Prelude.{◌≡◌, List, [], ◌∷◌, ◌++◌, ℕ, ◌/◌, ◌%◌, length, Ok, Err}
+use Rattle.model.specs.declared.Fault.TheVariants.{Room, FileForm}
 use Rattle.model.specs.declared.Refusal.{Refusal}
-use Rattle.model.specs.declared.Checked.{Checked}
-use Rattle.model.specs.declared.Checked.TheVariants.{Fine, Bad}
-use Rattle.model.specs.Refusal.{checked, refusal, over}
+use Rattle.model.specs.Refusal.{number_of, Checked, checked, refusal, over}
 use Rattle.model.specs.Rules.{full_rules, room_rules}
 use Rattle.layout.specs.Text.{one, two, line, policy_text}
 use Rattle.layout.specs.Files.{MatrixFile, MatrixFormed, Malformed}
 use Rattle.build.specs.Build.{built_from}
-use Rattle.files.specs.declared.Wrote.{Wrote}
-use Rattle.files.specs.Write.{wrote_told, Written}
+use Rattle.files.specs.Write.{wrote_told, Written, Wrote}
 
 -- the mark of a refusal's line
 abbrev pub NO : List ℕ
@@ -21,12 +19,12 @@ five x = one (x / 10000) ++ (two (x / 100 % 100) ++ two (x % 100))
 
 -- the line of a refusal: its number in two digits, its place in five
 unfoldable pub refusal_text : Refusal → List ℕ
-refusal_text r = line (NO ++ (two r.number ++ five r.place))
+refusal_text r = line (NO ++ (two (number_of r.fault) ++ five r.place))
 
 -- the line of the refusal where there is one, and the text otherwise
 abbrev pub line_or : Checked → List ℕ → List ℕ
-line_or Fine t = t
-line_or (Bad r) t = refusal_text r
+line_or (Ok _) t = t
+line_or (Err r) t = refusal_text r
 
 -- the answer to the matrix m: 4 where a cell is unlogged, and the file of the built policy otherwise
 unfoldable pub answer_text : ℕ → ℕ → List ℕ → List ℕ
@@ -35,7 +33,7 @@ answer_text n k m = line_or (checked (full_rules n k m)) (policy_text n k (built
 -- the answer to the input s is t. The input is the file of a matrix; or 12 applies
 pub data Woven (s t : List ℕ) : Type 0 where
   formed : (n k : ℕ) (m : List ℕ) → MatrixFile n k m s → t ≡ answer_text n k m → Woven s t
-  malformed : (p : ℕ) → Malformed MatrixFormed s p → t ≡ refusal_text (refusal 12 p) → Woven s t
+  malformed : (p : ℕ) → Malformed MatrixFormed s p → t ≡ refusal_text (refusal FileForm p) → Woven s t
 
 -- the bytes of the longest answer
 abbrev pub longest : ℕ
@@ -50,4 +48,4 @@ pub record Wove (s x : List ℕ) (size : ℕ) (x' : List ℕ) : Type 0 where
 
 -- the promise: the answer to s is written to the output x, which becomes x'; or 11 applies, whatever s is
 abbrev pub Weaves : List ℕ → List ℕ → Wrote → List ℕ → Type 0
-Weaves s x r x' = (t : List ℕ) × Woven s t × Written (room_rules 11 (length x) longest) t x (wrote_told r) x'
+Weaves s x r x' = (t : List ℕ) × Woven s t × Written (room_rules Room (length x) longest) t x (wrote_told r) x'

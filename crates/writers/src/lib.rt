@@ -1,51 +1,81 @@
-// The pieces of a file, written: each goes to `out` from `at` on, and the other bytes stay.
+// The pieces of a file, written one behind the other: each goes to the buffer from the writer's place on, and the other bytes stay.
 
 #![tactic(auto)]
 
 ghost use Rattle.std.specs.Prelude.{◌≡◌, ℕ, ◌+◌, ◌*◌, ◌≤◌, ◌<◌, length, get_or};
-ghost use Rattle.std.proofs.lemmas.List.Edits.{sets};
 ghost use Rattle.model.specs.Below.{tab};
 ghost use Rattle.layout.specs.Text.{each, one, two, cell_char};
 
-// Bytes as they are: a mark, a line feed.
-pub fn put(out: &mut [u8], at: usize, text: &[u8])
-    requires { at + length text.now ≤ length out.old }
-    ensures { out.new ≡ sets out.old at text.now }
-{
-    let mut i = 0;
-    while i < text.len() {
-        out[at + i] = text[i];
-        i += 1;
+// A buffer, and the place that the next byte goes to.
+#[derive(Drop)]
+pub struct Writer<'a> {
+    pub buffer: &'a mut [u8],
+    pub at: usize,
+}
+
+impl<'a> Writer<'a> {
+    ghost use Rattle.writers.specs.Writes.{HasRoom, Writes};
+
+    // At the start of the buffer.
+    pub fn new(buffer: &'a mut [u8]) -> Writer<'a>
+        ensures same_buffer { result.buffer.ghost_name ≡ buffer.entry.ghost_name }
+        ensures untouched { result.buffer.now ≡ buffer.old }
+        ensures at_start { result.at ≡ 0 }
+    {
+        Writer { buffer, at: 0 }
     }
-}
 
-// One digit.
-pub fn put_digit(out: &mut [u8], at: usize, x: usize)
-    requires { (at + 1 ≤ length out.old) × (x < 10) }
-    ensures { out.new ≡ sets out.old at (one x) }
-{
-    out[at] = (48 + x) as u8;
-}
+    // Bytes as they are: a mark, a line feed.
+    pub fn put(&mut self, text: &[u8])
+        requires { HasRoom self.old (length text.now) }
+        ensures { Writes self.old self.new text.now }
+    {
+        let end = self.at + text.len();
+        self.buffer[self.at..end].copy_from_slice(text);
+        self.at = end;
+    }
 
-// Two digits.
-pub fn put_number(out: &mut [u8], at: usize, x: usize)
-    requires { (at + 2 ≤ length out.old) × (x < 100) }
-    ensures { out.new ≡ sets out.old at (two x) }
-{
-    put_digit(out, at, x / 10);
-    put_digit(out, at + 1, x % 10);
-}
+    // One digit.
+    pub fn put_digit(&mut self, x: usize)
+        requires { HasRoom self.old 1 × (x < 10) }
+        ensures { Writes self.old self.new (one x) }
+    {
+        self.put(&[(48 + x) as u8]);
+    }
 
-// Two digits for each of the numbers.
-pub fn put_numbers(out: &mut [u8], at: usize, numbers: &[u8])
-    requires out_has_room { at + length numbers.now * 2 ≤ length out.old }
-    requires below_100 { (i : ℕ) → i < length numbers.now → get_or numbers.now i 0 < 100 }
-    ensures { out.new ≡ sets out.old at (each (length numbers.now) (λ u. two (get_or numbers.now u 0))) }
-{
-    let mut u = 0;
-    while u < numbers.len() {
-        put_number(out, at + u * 2, numbers[u] as usize);
-        u += 1;
+    // Two digits.
+    pub fn put_number(&mut self, x: usize)
+        requires { HasRoom self.old 2 × (x < 100) }
+        ensures { Writes self.old self.new (two x) }
+    {
+        self.put_digit(x / 10);
+        self.put_digit(x % 10);
+    }
+
+    // Two digits for each of the numbers.
+    pub fn put_numbers(&mut self, numbers: &[u8])
+        requires out_has_room { HasRoom self.old (length numbers.now * 2) }
+        requires below_100 { (i : ℕ) → i < length numbers.now → get_or numbers.now i 0 < 100 }
+        ensures written { Writes self.old self.new (each (length numbers.now) (λ u. two (get_or numbers.now u 0))) }
+        ensures ends { self.new.at ≡ self.old.at + length numbers.now * 2 }
+    {
+        for x in numbers {
+            self.put_number(*x as usize);
+        }
+    }
+
+    // The characters of the cells.
+    pub fn put_cells(&mut self, cells: &[u8])
+        requires { HasRoom self.old (length cells.now) }
+        ensures written { Writes self.old self.new (tab (length cells.now) (λ i. cell_char (get_or cells.now i 0))) }
+        ensures ends { self.new.at ≡ self.old.at + length cells.now }
+    {
+        let at = self.at;
+        let out = &mut *self.buffer;
+        for (i, cell) in cells.iter().enumerate() {
+            out[at + i] = cell_char(*cell);
+        }
+        self.at += cells.len();
     }
 }
 
@@ -53,23 +83,9 @@ pub fn put_numbers(out: &mut [u8], at: usize, numbers: &[u8])
 fn cell_char(cell: u8) -> u8
     ensures { result ≡ cell_char cell }
 {
-    if cell == 0 {
-        48
-    } else if cell == 1 {
-        49
-    } else {
-        42
-    }
-}
-
-// The characters of the w cells from `from` on.
-pub fn put_cells(out: &mut [u8], at: usize, cells: &[u8], from: usize, w: usize)
-    requires { (at + w ≤ length out.old) × (from + w ≤ length cells.now) }
-    ensures { out.new ≡ sets out.old at (tab w (λ i. cell_char (get_or cells.now (from + i) 0))) }
-{
-    let mut i = 0;
-    while i < w {
-        out[at + i] = cell_char(cells[from + i]);
-        i += 1;
+    match cell {
+        0 => b'0',
+        1 => b'1',
+        _ => b'*',
     }
 }

@@ -1,62 +1,47 @@
--- `build::build` meets its contract: where a rule before the last applies nothing was written; past them the domains are numbered in two
--- local lists, and `write` gives the last refusal or writes the built policy (`Exits`). Assumes nothing.
+-- `build::build` meets its contract: where a rule before the last applies nothing was written; past them the classes are found, and
+-- `write` gives the last refusal or writes the built policy (`Exits`). Assumes nothing.
 use mathlib.Core.Path.{◌≡◌, sym, ◌∙◌}
-use mathlib.Core.List.{◌++◌}
+use borrow.Author.Rules.{rules}
 use lib.ListN.{length}
-use Rattle.model.specs.declared.Checked.TheVariants.{Fine}
+use Rattle.std.specs.Prelude.{Ok, Err}
+use Rattle.model.specs.declared.Fault.TheVariants.{AssignmentRoom}
 use Rattle.model.specs.Refusal.{checked}
-use Rattle.model.specs.Rules.{whole_rules, room_rules}
-use Rattle.build.proofs.Exits.{early_bad, whole, room, numbers_long, members_in, wrote}
+use Rattle.model.specs.Rules.{room_rules}
+use Rattle.model.proofs.Rules.{room_fine}
+use Rattle.build.specs.Build.{Builds}
+use Rattle.build.proofs.Exits.{whole_bad, room_bad, wrote}
 use Rattle.build.proofs.build.Goals as goal
-use Rattle.build.proofs.build.Goals.{In_default}
+use Rattle.build.proofs.build.Goals.{In_ok-m, In_ok-room_fits}
 
-fine : (c : In_default) → let a = c.args in
-    checked (whole_rules a.n a.k a.matrix.now ++ room_rules 10 (length a.assignment.now) a.n) ≡ Fine
-fine c = sym c.build_fits-fits.ensures ∙ c.in_default.is
+-- there is room for the assignment
+room : (c : In_ok-room_fits) → let a = c.args in Ok tt ≡ checked (room_rules AssignmentRoom (length a.assignment.now) a.n)
+room c = sym c.in_ok-room_fits.was ∙ c.room_fits.ensures
 
-pub returns-in-Bad : goal.returns-in-Bad
-returns-in-Bad c =
+pub returns-in_err-m : goal.returns-in_err-m
+returns-in_err-m c =
     let a = c.args in
-    let bad = sym c.build_fits-fits.ensures ∙ c.in-Bad.is in
-    early_bad a.n a.k a.matrix.now a.assignment.now a.table.now _ bad
+    let same : c.from_residual.result ≡ Err c.in_err-m.field-0.0 = search rules in
+    let told : Builds a.n a.k a.matrix.now a.assignment.now a.table.now c.from_residual.result a.assignment.now a.table.now =
+    rw same (whole_bad a.n a.k a.matrix.now a.assignment.now a.table.now _ c.in_err-m.ensures.refusals) in
+    told
 
-pub classify-d-requires-clause-laid : goal.classify-d-requires-clause-laid
-classify-d-requires-clause-laid c =
+pub returns-in_err-room_fits : goal.returns-in_err-room_fits
+returns-in_err-room_fits c =
     let a = c.args in
-    let l = (whole a.n a.k a.matrix.now a.assignment.now a.table.now (fine (goal.at.classify-d-requires-clause-laid c).In_default)).laid in
-    l
+    let same : c.from_residual-in_err-room_fits.result ≡ Err c.in_err-room_fits.field-0.0 = search rules in
+    rw same (room_bad a.n a.k a.matrix.now a.assignment.now a.table.now c.in_ok-m.ensures.refusals _ (sym c.in_err-room_fits.was ∙ c.room_fits.ensures))
 
-pub classify-d-requires-clause-buffers_hold_n : goal.classify-d-requires-clause-buffers_hold_n
-classify-d-requires-clause-buffers_hold_n c =
+pub write-requires : goal.write-requires
+write-requires c =
     let a = c.args in
-    let l = (whole a.n a.k a.matrix.now a.assignment.now a.table.now (fine (goal.at.classify-d-requires-clause-buffers_hold_n c).In_default)).laid in
-    (l.entities, l.entities)
+    rw (c.classify.ensures.matrix, c.in_ok-m.ensures.matrix.0) (room_fine AssignmentRoom _ a.n (sym (room (goal.at.write-requires c).In_ok-room_fits)))
 
 pub returns : goal.returns
 returns c =
     let a = c.args in
-    let q = c.classify-d.ensures in
+    let q = c.classify.ensures in
     let p = c.write.ensures in
-    wrote a.n a.k a.matrix.now a.assignment.now a.table.now (fine
-    (goal.at.returns c).In_default) _ _ _ _ _ q.value q.domains_after q.members_after _ _ _ p.result_value p.assignment_after p.table_after
-
-pub write-requires-clause-laid : goal.write-requires-clause-laid
-write-requires-clause-laid c =
-    let a = c.args in
-    (whole a.n a.k a.matrix.now a.assignment.now a.table.now (fine (goal.at.write-requires-clause-laid c).In_default)).laid
-
-pub write-requires-clause-members : goal.write-requires-clause-members
-write-requires-clause-members c =
-    let a = c.args in
-    let q = c.classify-d.ensures in
-    members_in a.n a.k a.matrix.now a.assignment.now a.table.now
-    (fine (goal.at.write-requires-clause-members c).In_default) _ _ _ _ _ q.value q.domains_after q.members_after
-
-pub write-requires-clause-buffers_hold_n : goal.write-requires-clause-buffers_hold_n
-write-requires-clause-buffers_hold_n c =
-    let a = c.args in
-    let q = c.classify-d.ensures in (
-      numbers_long a.n a.k a.matrix.now a.assignment.now a.table.now
-          (fine (goal.at.write-requires-clause-buffers_hold_n c).In_default) _ _ _ _ _ q.value q.domains_after q.members_after,
-      room a.n a.k a.matrix.now a.assignment.now a.table.now (fine (goal.at.write-requires-clause-buffers_hold_n c).In_default),
-    )
+    let is = c.in_ok-m.ensures.matrix in
+    wrote a.n a.k a.matrix.now a.assignment.now a.table.now c.in_ok-m.ensures.refusals (room (goal.at.returns c).In_ok-room_fits)
+    _ _ _ _ _ (rw (is.0, is.1, is.2) at q.count) (rw (is.0, is.1, is.2) at q.domains) (rw (is.0, is.1, is.2) at q.members) _ _ _
+    (rw (q.matrix, is.1) at p.result_value) (rw (q.matrix, is.0, is.1) at p.assignment_after) (rw (q.matrix, is.0, is.1, is.2) at p.table_after)

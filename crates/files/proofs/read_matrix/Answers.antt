@@ -1,60 +1,52 @@
 -- `files::read_matrix` meets its contract: its exits are those of `Fills`, at the numbers that the file has. Assumes nothing.
 use mathlib.Core.Path.{◌≡◌, sym, ◌∙◌}
-use Prim.Native.Nat.{◌*◌, ◌<◌}
+use Prim.Native.Nat.{◌*◌}
 use native.Mathlib.Omega.{arith}
+use borrow.Author.Rules.{rules}
 use lib.ListN.{length}
-use Rattle.model.specs.declared.Checked.TheVariants.{Fine}
+use Rattle.std.specs.Prelude.{Ok, Err}
+use Rattle.model.specs.declared.Fault.TheVariants.{Room}
 use Rattle.model.specs.Refusal.{checked}
 use Rattle.model.specs.Rules.{room_rules}
 use Rattle.model.proofs.Rules.{room_fine}
-use Rattle.files.proofs.Fills.{placed_bad, placed_fine, matrix_bad, matrix_least, MatrixFits, matrix_long, matrix_short, matrix_filled}
+use Rattle.files.proofs.Fills.{matrix_bad, MatrixFits, matrix_fits, matrix_limits, matrix_long, matrix_short, matrix_filled}
 use Rattle.files.proofs.read_matrix.Goals as goal
-use Rattle.files.proofs.read_matrix.Goals.{After-digit_at-k, In_default, In_default-room}
+use Rattle.files.proofs.read_matrix.Goals.{In_ok-sizes, In_ok-room_fits}
 
--- the check went past the end
-past : (c : In_default) → length c.args.file.now < c.matrix_place.result
-past c = placed_fine 12 _ _ (sym c.place_fits-formed.ensures ∙ c.in_default.is)
-
-fits : (c : After-digit_at-k) → MatrixFits c.args.file.now c.number_at-n.result c.digit_at-k.result
-fits c =
-    record {
-      place = c.matrix_place.result;
-      reached = c.matrix_place.ensures;
-      past = (placed_fine 12 _ _ (sym c.place_fits-formed.ensures ∙ c.in_default.is));
-      entities = c.number_at-n.ensures.value;
-      rights = c.digit_at-k.ensures.value;
-    }
+fits : (c : In_ok-sizes) → let z = c.in_ok-sizes.sizes in MatrixFits c.args.file.now z.n z.k
+fits c = let q = c.read_matrix.ensures in matrix_fits c.args.file.now c.read_matrix.result c.in_ok-sizes.sizes q.place q.sizes c.in_ok-sizes.ensures
 
 -- and there is room
-roomy : (c : In_default-room)
-    → let n = c.number_at-n.result in
-    checked (room_rules 11 (length c.args.matrix.now) (n * (c.digit_at-k.result * n))) ≡ Fine
-roomy c = sym c.room_fits-room.ensures ∙ c.in_default-room.is
+roomy : (c : In_ok-room_fits) → let z = c.in_ok-sizes.sizes in checked (room_rules Room (length c.args.matrix.now) (z.n * (z.k * z.n))) ≡ Ok tt
+roomy c = sym c.room_fits.ensures ∙ c.in_ok-room_fits.was
 
-pub returns-in-Bad : goal.returns-in-Bad
-returns-in-Bad c =
-    let a = c.args in
-    let bad = sym c.place_fits-formed.ensures ∙ c.in-Bad.is in
-    matrix_bad a.file.now a.matrix.now _ _ c.matrix_place.ensures (placed_bad 12 _ (length a.file.now) _ bad)
+pub returns-in_err-sizes : goal.returns-in_err-sizes
+returns-in_err-sizes c =
+    let same : c.from_residual.result ≡ Err c.in_err-sizes.field-0.0 = search rules in
+    let q = c.read_matrix.ensures in
+    rw same (matrix_bad c.args.file.now c.args.matrix.now c.read_matrix.result _ q.place q.fault c.in_err-sizes.ensures)
 
-pub number_at-n-requires : goal.number_at-n-requires
-number_at-n-requires c = omega (arith, matrix_least _ _ c.matrix_place.ensures (past (goal.at.number_at-n-requires c).In_default))
+pub overflow_mul-k : goal.overflow_mul-k
+overflow_mul-k c = omega (arith, (matrix_limits (fits (goal.at.overflow_mul-k c).In_ok-sizes)).row)
 
-pub digit_at-k-requires : goal.digit_at-k-requires
-digit_at-k-requires c = omega (arith, matrix_least _ _ c.matrix_place.ensures (past (goal.at.digit_at-k-requires c).In_default))
+pub overflow_mul-n : goal.overflow_mul-n
+overflow_mul-n c = omega (arith, (matrix_limits (fits (goal.at.overflow_mul-n c).In_ok-sizes)).rows)
 
-pub returns-in-Bad-room : goal.returns-in-Bad-room
-returns-in-Bad-room c =
-    let bad = sym c.room_fits-room.ensures ∙ c.in-Bad-room.is in
-    matrix_short (fits (goal.at.returns-in-Bad-room c).After-digit_at-k) c.args.matrix.now _ bad
+pub returns-in_err-room_fits : goal.returns-in_err-room_fits
+returns-in_err-room_fits c =
+    let same : c.from_residual-in_err-room_fits.result ≡ Err c.in_err-room_fits.field-0.0 = search rules in
+    let bad = sym c.room_fits.ensures ∙ c.in_err-room_fits.was in
+    rw same (matrix_short (fits (goal.at.returns-in_err-room_fits c).In_ok-sizes) c.args.matrix.now _ bad)
+
+pub overflow_mul-k-2 : goal.overflow_mul-k-2
+overflow_mul-k-2 c = omega (arith, (matrix_limits (fits (goal.at.overflow_mul-k-2 c).In_ok-sizes)).row)
 
 pub fill_records-requires : goal.fill_records-requires
 fill_records-requires c = (
-  omega (arith, matrix_long (fits (goal.at.fill_records-requires c).After-digit_at-k)),
-  room_fine 11 _ _
-      (roomy (goal.at.fill_records-requires c).In_default-room),
+  omega (arith, matrix_long (fits (goal.at.fill_records-requires c).In_ok-sizes)),
+  room_fine Room _ _ (roomy (goal.at.fill_records-requires c).In_ok-room_fits),
 )
 
 pub returns : goal.returns
 returns c =
-    matrix_filled (fits (goal.at.returns c).After-digit_at-k) c.args.matrix.now _ (roomy (goal.at.returns c).In_default-room) c.fill_records.ensures
+    matrix_filled (fits (goal.at.returns c).In_ok-sizes) c.args.matrix.now _ (roomy (goal.at.returns c).In_ok-room_fits) c.fill_records.ensures

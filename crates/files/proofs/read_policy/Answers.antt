@@ -1,91 +1,80 @@
 -- `files::read_policy` meets its contract: its exits are those of `Fills`, at the numbers that the file has. Assumes nothing.
 use mathlib.Core.Path.{◌≡◌, sym, ◌∙◌}
-use Prim.Native.Nat.{◌*◌, ◌<◌}
+use Prim.Native.Nat.{◌*◌}
 use native.Mathlib.Omega.{arith}
+use borrow.Author.Rules.{rules}
 use lib.ListN.{length}
-use Rattle.model.specs.declared.Checked.TheVariants.{Fine}
+use Rattle.std.specs.Prelude.{Ok, Err}
+use Rattle.model.specs.declared.Fault.TheVariants.{AssignmentRoom, Room}
 use Rattle.model.specs.Refusal.{checked}
 use Rattle.model.specs.Rules.{room_rules}
 use Rattle.model.proofs.Rules.{room_fine}
-use Rattle.files.proofs.Fills.{placed_bad, placed_fine, policy_bad, policy_least, PolicyFits, policy_long}
+use Rattle.files.proofs.Fills.{policy_bad, PolicyFits, policy_fits, policy_limits, policy_entities, policy_long}
 use Rattle.files.proofs.Fills.{names_short, cells_short, policy_filled}
 use Rattle.files.proofs.read_policy.Goals as goal
-use Rattle.files.proofs.read_policy.Goals.{After-number_at-d, In_default, In_default-cells, In_default-names}
+use Rattle.files.proofs.read_policy.Goals.{In_ok-sizes, In_ok-room_fits, In_ok-room_fits-2}
 
--- the check went past the end
-past : (c : In_default) → length c.args.file.now < c.policy_place.result
-past c = placed_fine 12 _ _ (sym c.place_fits-formed.ensures ∙ c.in_default.is)
-
-fits : (c : After-number_at-d)
-    → PolicyFits c.args.file.now c.number_at-n.result c.digit_at-k.result c.number_at-d.result
-fits c =
-    record {
-      place = c.policy_place.result;
-      reached = c.policy_place.ensures;
-      past = (placed_fine 12 _ _ (sym c.place_fits-formed.ensures ∙ c.in_default.is));
-      entities = c.number_at-n.ensures.value;
-      rights = c.digit_at-k.ensures.value;
-      domains = c.number_at-d.ensures.value;
-    }
+fits : (c : In_ok-sizes) → let z = c.in_ok-sizes.sizes in PolicyFits c.args.file.now z.n z.k z.d
+fits c = let q = c.read_policy.ensures in policy_fits c.args.file.now c.read_policy.result c.in_ok-sizes.sizes q.place q.sizes c.in_ok-sizes.ensures
 
 -- and there is room for the assignment
-roomy : (c : In_default-names)
-    → checked (room_rules 10 (length c.args.assignment.now) c.number_at-n.result) ≡ Fine
-roomy c = sym c.room_fits-names.ensures ∙ c.in_default-names.is
+roomy : (c : In_ok-room_fits) → checked (room_rules AssignmentRoom (length c.args.assignment.now) c.in_ok-sizes.sizes.n) ≡ Ok tt
+roomy c = sym c.room_fits.ensures ∙ c.in_ok-room_fits.was
 
 -- and for the table
-spacious : (c : In_default-cells)
-    → let d = c.number_at-d.result in
-    checked (room_rules 11 (length c.args.table.now) (d * (c.digit_at-k.result * d))) ≡ Fine
-spacious c = sym c.room_fits-cells.ensures ∙ c.in_default-cells.is
+spacious : (c : In_ok-room_fits-2) → let z = c.in_ok-sizes.sizes in checked (room_rules Room (length c.args.table.now) (z.d * (z.k * z.d))) ≡ Ok tt
+spacious c = sym c.room_fits-2.ensures ∙ c.in_ok-room_fits-2.was
 
-pub returns-in-Bad : goal.returns-in-Bad
-returns-in-Bad c =
+pub returns-in_err-sizes : goal.returns-in_err-sizes
+returns-in_err-sizes c =
+    let same : c.from_residual.result ≡ Err c.in_err-sizes.field-0.0 = search rules in
+    let q = c.read_policy.ensures in
     let a = c.args in
-    let bad = sym c.place_fits-formed.ensures ∙ c.in-Bad.is in
-    policy_bad a.file.now a.assignment.now a.table.now _ _ c.policy_place.ensures
-    (placed_bad 12 _ (length a.file.now) _ bad)
+    rw same (policy_bad a.file.now a.assignment.now a.table.now c.read_policy.result _ q.place q.fault c.in_err-sizes.ensures)
 
-pub number_at-n-requires : goal.number_at-n-requires
-number_at-n-requires c = omega (arith, policy_least _ _ c.policy_place.ensures (past (goal.at.number_at-n-requires c).In_default))
+pub returns-in_err-room_fits : goal.returns-in_err-room_fits
+returns-in_err-room_fits c =
+    let same : c.from_residual-in_err-room_fits.result ≡ Err c.in_err-room_fits.field-0.0 = search rules in
+    let bad = sym c.room_fits.ensures ∙ c.in_err-room_fits.was in
+    rw same (names_short (fits (goal.at.returns-in_err-room_fits c).In_ok-sizes) c.args.assignment.now c.args.table.now _ bad)
 
-pub digit_at-k-requires : goal.digit_at-k-requires
-digit_at-k-requires c = omega (arith, policy_least _ _ c.policy_place.ensures (past (goal.at.digit_at-k-requires c).In_default))
+pub overflow_mul-k : goal.overflow_mul-k
+overflow_mul-k c = omega (arith, (policy_limits (fits (goal.at.overflow_mul-k c).In_ok-sizes)).row)
 
-pub number_at-d-requires : goal.number_at-d-requires
-number_at-d-requires c = omega (arith, policy_least _ _ c.policy_place.ensures (past (goal.at.number_at-d-requires c).In_default))
+pub overflow_mul-d : goal.overflow_mul-d
+overflow_mul-d c = omega (arith, (policy_limits (fits (goal.at.overflow_mul-d c).In_ok-sizes)).rows)
 
-pub returns-in-Bad-names : goal.returns-in-Bad-names
-returns-in-Bad-names c =
-    let a = c.args in
-    let bad = sym c.room_fits-names.ensures ∙ c.in-Bad-names.is in
-    names_short (fits (goal.at.returns-in-Bad-names c).After-number_at-d) a.assignment.now a.table.now _ bad
-
-pub returns-in-Bad-cells : goal.returns-in-Bad-cells
-returns-in-Bad-cells c =
-    let a = c.args in
-    let bad = sym c.room_fits-cells.ensures ∙ c.in-Bad-cells.is in
-    cells_short (fits (goal.at.returns-in-Bad-cells c).After-number_at-d) a.assignment.now a.table.now
-    (roomy (goal.at.returns-in-Bad-cells c).In_default-names) _ bad
+pub returns-in_err-room_fits-2 : goal.returns-in_err-room_fits-2
+returns-in_err-room_fits-2 c =
+    let same : c.from_residual-in_err-room_fits-2.result ≡ Err c.in_err-room_fits-2.field-0.0 = search rules in
+    let bad = sym c.room_fits-2.ensures ∙ c.in_err-room_fits-2.was in
+    let room = roomy (goal.at.returns-in_err-room_fits-2 c).In_ok-room_fits in
+    rw same (cells_short (fits (goal.at.returns-in_err-room_fits-2 c).In_ok-sizes) c.args.assignment.now c.args.table.now room _ bad)
 
 pub fill_numbers-requires : goal.fill_numbers-requires
 fill_numbers-requires c = (
-  omega (arith, policy_long (fits (goal.at.fill_numbers-requires c).After-number_at-d)),
-  room_fine 10 _ _
-      (roomy (goal.at.fill_numbers-requires c).In_default-names),
+  omega (arith, policy_long (fits (goal.at.fill_numbers-requires c).In_ok-sizes)),
+  room_fine AssignmentRoom _ _ (roomy (goal.at.fill_numbers-requires c).In_ok-room_fits),
 )
+
+pub overflow_mul-n : goal.overflow_mul-n
+overflow_mul-n c = omega (arith, policy_entities (fits (goal.at.overflow_mul-n c).In_ok-sizes))
+
+pub overflow_add-n : goal.overflow_add-n
+overflow_add-n c = omega (arith, policy_entities (fits (goal.at.overflow_add-n c).In_ok-sizes))
+
+pub overflow_mul-k-2 : goal.overflow_mul-k-2
+overflow_mul-k-2 c = omega (arith, (policy_limits (fits (goal.at.overflow_mul-k-2 c).In_ok-sizes)).row)
 
 pub fill_records-requires : goal.fill_records-requires
 fill_records-requires c = (
-  omega (arith, policy_long (fits (goal.at.fill_records-requires c).After-number_at-d)),
-  room_fine 11 _ _
-      (spacious (goal.at.fill_records-requires c).In_default-cells),
+  omega (arith, policy_long (fits (goal.at.fill_records-requires c).In_ok-sizes)),
+  room_fine Room _ _ (spacious (goal.at.fill_records-requires c).In_ok-room_fits-2),
 )
 
 pub returns : goal.returns
 returns c =
-    let cells = c.fill_records.ensures in
-    let names = c.fill_numbers.ensures in
-    let room = roomy (goal.at.returns c).In_default-names in
+    let room = roomy (goal.at.returns c).In_ok-room_fits in
+    let space = spacious (goal.at.returns c).In_ok-room_fits-2 in
     let a = c.args in
-    policy_filled (fits (goal.at.returns c).After-number_at-d) a.assignment.now a.table.now room _ _ (spacious (goal.at.returns c).In_default-cells) names cells
+    policy_filled (fits (goal.at.returns c).In_ok-sizes) a.assignment.now a.table.now room _ _ space c.fill_numbers.ensures c.fill_records.ensures

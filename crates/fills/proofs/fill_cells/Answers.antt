@@ -1,16 +1,14 @@
--- `fills::fill_cells` meets its contract. The invariant: the values of the first i cells are written. Assumes nothing.
-use mathlib.Core.Path.{refl}
-use Prim.Native.Nat.{◌+◌}
+-- `fills::fill_cells` meets its contract: a turn writes one value. Assumes nothing.
 use native.Mathlib.Omega.{arith}
-use Rattle.layout.proofs.Puts.{tab_start, tab_turn}
+use Rattle.model.proofs.Loops.{filled_none, filled_next}
 use Rattle.fills.proofs.fill_cells.Goals as goal
 use Rattle.fills.proofs.fill_cells.Invariants.{cell}
 
 pub loop-i-init : goal.loop-i-init
-loop-i-init c = let a = c.args in (omega arith, tab_start (cell a.s.now a.at) a.out.now a.to)
+loop-i-init c = filled_none (cell c.args.row.now) c.args.out.now
 
 pub loop-i-preserved : goal.loop-i-preserved
 loop-i-preserved c =
     let a = c.args in
     let l = c.loop-i in
-    (omega arith, tab_turn (cell a.s.now a.at) a.out.now a.to l.i (a.to + l.i) l.invariant.1 refl c.cell_of.ensures)
+    rw (l.invariant, c.cell_of.ensures) (filled_next l.i (cell a.row.now) a.out.now (omega arith))

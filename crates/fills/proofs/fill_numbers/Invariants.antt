@@ -1,7 +1,7 @@
 -- `fills::fill_numbers` meets its contract. The invariant: the values of the first u numbers are written. Assumes nothing.
 use mathlib.Core.Path.{◌≡◌}
 use mathlib.Core.List.{List}
-use Prim.Native.Nat.{ℕ, ◌+◌, ◌-◌, ◌*◌, ◌≤◌}
+use Prim.Native.Nat.{ℕ, ◌+◌, ◌*◌}
 use lib.Seq.{sets}
 use Rattle.model.specs.Below.{tab}
 use Rattle.layout.specs.Layout.{number_at}
@@ -11,7 +11,4 @@ abbrev pub value : List ℕ → ℕ → ℕ → ℕ
 value s at u = number_at s (at + u * 2)
 
 abbrev pub invariant-loop-u : goal.invariant-loop-u
-invariant-loop-u l = (l.u ≤ l.n) × (l.out ≡ sets l.initial.out 0 (tab l.u (value l.s l.at)))
-
-abbrev pub decreases-loop-u : goal.decreases-loop-u
-decreases-loop-u l = l.n - l.u
+invariant-loop-u l = l.out ≡ sets l.initial.out 0 (tab l.u (value l.s l.at))

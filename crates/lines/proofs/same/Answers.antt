@@ -5,14 +5,14 @@ use native.Mathlib.Omega.{arith}
 use Rattle.lines.proofs.Lines.{rows_differ, rows_then_columns}
 use Rattle.lines.proofs.same.Goals as goal
 
-pub returns-then-not-same_row : goal.returns-then-not-same_row
-returns-then-not-same_row c =
-    let a = c.args in
-    rows_differ a.n a.k a.m.now c.requires.laid a.u a.v (omega arith) (omega arith) _ c.same_row.ensures (c.if-not-same_row.true)
+pub returns-else-same_row : goal.returns-else-same_row
+returns-else-same_row c =
+    let m = c.args.m.now in
+    rows_differ m.n m.k m.cells.now m.laid c.args.u c.args.v (omega arith) (omega arith) _ c.same_row.ensures (c.if-same_row.false)
 
-pub returns : goal.returns
-returns c =
-    let a = c.args in
+pub returns-then-same_row : goal.returns-then-same_row
+returns-then-same_row c =
+    let m = c.args.m.now in
     let told = c.same_row.ensures in
     c.same_columns.ensures
-    ∙ rows_then_columns a.n a.k a.m.now c.requires.laid a.u a.v (omega arith) (omega arith) _ told (c.if-not-same_row.false)
+    ∙ rows_then_columns m.n m.k m.cells.now m.laid c.args.u c.args.v (omega arith) (omega arith) _ told (c.if-same_row.true)

@@ -1,17 +1,7 @@
--- `lines::same_row` meets its contract. The invariant: the first i bytes are the same; a block moves i to its end. Assumes nothing.
-use mathlib.Core.Path.{sym, ◌∙◌}
-use Prim.Native.Nat.{◌+◌}
-use native.Mathlib.Omega.{arith}
-use lib.ListN.{length}
-use Rattle.lines.proofs.Lines.{agree_none, agree_fails}
+-- `lines::same_row` meets its contract: the answers at each cell are the test. Assumes nothing.
+use Rattle.std.proofs.Common.{rules}
+use Rattle.lines.proofs.Lines.{agree_told}
 use Rattle.lines.proofs.same_row.Goals as goal
 
-pub loop-i-init : goal.loop-i-init
-loop-i-init c = (omega arith, agree_none _ _)
-
-pub returns-then-not-same_block : goal.returns-then-not-same_block
-returns-then-not-same_block c =
-    let l = c.loop-i in
-    let a = c.args in
-    let e = l.i + 64 in
-    agree_fails _ _ e (length a.r.now) (omega arith) (sym c.same_block.ensures ∙ c.if-not-same_block.true)
+pub returns : goal.returns
+returns c = agree_told _ _ _ _ c.all_same.ensures (λ j y. search rules) (λ j y. search rules)

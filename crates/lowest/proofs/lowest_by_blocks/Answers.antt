@@ -1,50 +1,42 @@
--- `lowest::lowest_by_blocks` meets its contract. The invariant: none of the first i bytes is b or more. A block with no such byte
--- moves i to its end; in the first block that has one, its lowest place is the whole's. Assumes nothing.
-use mathlib.Core.Path.{◌≡◌, sym, ap, ◌∙◌}
-use Prim.Native.Nat.{ℕ, ◌+◌}
+-- `lowest::lowest_by_blocks` meets its contract. The invariant: no byte before i, where the next block starts, is b or more. A block with
+-- no such byte moves i on; in the first block that has one, its lowest place is the whole's. Assumes nothing.
+use mathlib.Core.Path.{sym, ◌∙◌}
+use Prim.Native.Nat.{ℕ, ◌<◌}
 use native.Mathlib.Omega.{arith}
-use lib.Dec.{leb}
-use Rattle.model.specs.Rules.{lowest}
-use Rattle.model.proofs.Slices.{part, part_length}
-use Rattle.model.proofs.Loops.{any_none}
-use Rattle.lowest.proofs.Lowest.{at, block_none, block_some, lowest_end, lowest_le}
+use lib.Dec.{T, leb}
+use Rattle.model.proofs.Slices.{part}
+use Rattle.lowest.proofs.Lowest.{at, position_lowest, reached, block_none, block_some, none_in}
 use Rattle.lowest.proofs.lowest_by_blocks.Goals as goal
-use Rattle.lowest.proofs.lowest_by_blocks.Goals.{After-lowest_in}
+use Rattle.lowest.proofs.lowest_by_blocks.Goals.{Else-reaches}
 
--- the lowest place of the block, counted from the start, is the whole's
-found : (c : After-lowest_in) →
-    let loop = c.loop-i in
-    let args = c.args in
-    loop.i + c.lowest_in.result ≡ lowest (leb args.b) args.s.now
-found c =
-    let loop = c.loop-i in
-    let args = c.args in
-    let e = c.block_end-e.result in
-    ap (λ (x : ℕ). loop.i + x) c.lowest_in.ensures
-    ∙ block_some (leb args.b) args.s.now loop.i e (omega arith) (omega arith) loop.invariant.1
-    (sym c.reaches.ensures ∙ c.if-reaches.true)
-
-pub loop-i-init : goal.loop-i-init
-loop-i-init c = (omega arith, any_none (at (leb c.args.b) c.args.s.now))
-
-pub overflow_add-result : goal.overflow_add-result
-overflow_add-result c =
-    let args = c.args in
-    let i = c.loop-i.i in
-    let e = c.block_end-e.result in
-    let size = part_length args.s.now i e (omega arith) (omega arith) in
-    omega (arith, lowest_le (leb args.b) (part args.s.now i e), c.lowest_in.ensures)
+pub returns-in_err-lowest_in : goal.returns-in_err-lowest_in
+returns-in_err-lowest_in c =
+    let a = c.args in
+    let block = part a.s.now c.loop-i.i c.block_end-e.result in
+    absurd (reached (leb a.b) block (sym c.reaches.ensures ∙ c.if-reaches.true) (position_lowest (leb a.b) block _ c.in_err-lowest_in.ensures))
 
 pub returns-then-reaches : goal.returns-then-reaches
-returns-then-reaches c = found (goal.at.returns-then-reaches c).After-lowest_in
+returns-then-reaches c =
+    let a = c.args in
+    let i = c.loop-i.i in
+    let e = c.block_end-e.result in
+    block_some (leb a.b) a.s.now i e (omega arith) (omega arith) c.loop-i.invariant _
+    (position_lowest (leb a.b) (part a.s.now i e) _ c.in_ok-lowest_in.ensures)
+
+-- none before the end of a block that has no such byte
+passed : (c : Else-reaches) → (j : ℕ) → j < c.block_end-e.result → ¬ T (at (leb c.args.b) c.args.s.now j)
+passed c =
+    let a = c.args in
+    let i = c.loop-i.i in
+    let e = c.block_end-e.result in
+    block_none (leb a.b) a.s.now i e (omega arith) (omega arith) c.loop-i.invariant (sym c.reaches.ensures ∙ c.if-reaches.false)
 
 pub loop-i-preserved : goal.loop-i-preserved
-loop-i-preserved c =
-    let loop = c.loop-i in
-    let args = c.args in
-    let e = c.block_end-e.result in
-    let none = sym c.reaches.ensures ∙ c.if-reaches.false in
-    (omega arith, block_none (leb args.b) args.s.now loop.i e (omega arith) (omega arith) loop.invariant.1 none)
+loop-i-preserved c = λ j m n. passed (goal.at.loop-i-preserved c).Else-reaches j (omega arith)
+
+-- the last block
+pub returns-else-reaches : goal.returns-else-reaches
+returns-else-reaches c = none_in _ _ (λ j m n. passed (goal.at.returns-else-reaches c).Else-reaches j (omega arith))
 
 pub returns : goal.returns
-returns c = lowest_end _ _ _ (omega arith) c.loop-i.invariant.1
+returns c = none_in _ _ (λ j m n. c.loop-i.invariant j (omega arith) n)

@@ -1,16 +1,8 @@
--- `lowest::lowest_by_blocks` meets its contract. The invariant: none of the first i bytes is b or more. A block with no such byte
--- moves i to its end; in the first block that has one, its lowest place is the whole's. Assumes nothing.
-use mathlib.Core.Path.{◌≡◌}
-use mathlib.Core.Bool.{false}
-use Prim.Native.Nat.{◌-◌, ◌≤◌}
+-- `lowest::lowest_by_blocks` meets its contract. The invariant: no byte before i, where the next block starts, is b or more. A block with
+-- no such byte moves i on; in the first block that has one, its lowest place is the whole's. Assumes nothing.
 use lib.Dec.{leb}
-use lib.ListN.{length}
-use Rattle.model.specs.Below.{any}
-use Rattle.lowest.proofs.Lowest.{at}
+use Rattle.lowest.proofs.Lowest.{NoneBefore}
 use Rattle.lowest.proofs.lowest_by_blocks.Given as goal
 
 abbrev pub invariant-loop-i : goal.invariant-loop-i
-invariant-loop-i l = (l.i ≤ length l.s) × (any l.i (at (leb l.b) l.s) ≡ false)
-
-abbrev pub decreases-loop-i : goal.decreases-loop-i
-decreases-loop-i l = length l.s - l.i
+invariant-loop-i l = NoneBefore (leb l.b) l.s l.i

@@ -1,14 +1,9 @@
--- `lowest::reaches` meets its contract. The invariant: `found` says whether one of the first i bytes is b or more. Assumes nothing.
+-- `lowest::reaches` meets its contract. The invariant: `found` says whether one of the bytes so far is b or more. Assumes nothing.
 use mathlib.Core.Path.{◌≡◌}
-use Prim.Native.Nat.{◌-◌, ◌≤◌}
 use lib.Dec.{leb}
-use lib.ListN.{length}
 use Rattle.model.specs.Below.{any}
 use Rattle.lowest.proofs.Lowest.{at}
 use Rattle.lowest.proofs.reaches.Given as goal
 
-abbrev pub invariant-loop-i : goal.invariant-loop-i
-invariant-loop-i l = (l.i ≤ length l.s) × (l.found ≡ any l.i (at (leb l.b) l.s))
-
-abbrev pub decreases-loop-i : goal.decreases-loop-i
-decreases-loop-i l = length l.s - l.i
+abbrev pub invariant-loop-x : goal.invariant-loop-x
+invariant-loop-x l = l.found ≡ any l.x-index (at (leb l.b) l.s)

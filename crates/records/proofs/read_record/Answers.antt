@@ -1,41 +1,31 @@
--- `records::read_record` meets its contract: its four pieces, each with the exit where s does not fit. Assumes nothing.
-use native.Mathlib.Omega.{arith}
-use Rattle.layout.proofs.Stops.{piece_inside, value_inside}
-use Rattle.records.proofs.Lines.{record_named, record_numbered, record_filled, record_whole}
+-- `records::read_record` meets its contract: its four pieces, each with the exit where the file does not fit. Assumes nothing.
+use Rattle.std.proofs.lemmas.Result.{MatchResult-weaker}
+use Rattle.readers.proofs.Steps.{gives_up}
+use Rattle.records.proofs.Lines.{record_unnamed, record_unnumbered, record_unfilled, record_unended, record_whole}
 use Rattle.records.proofs.read_record.Goals as goal
 
-pub returns-then-named-at : goal.returns-then-named-at
-returns-then-named-at c = record_named _ _ _ _ (omega arith) c.read_text-named.ensures (omega arith)
+pub returns-in_err-text-clause-read : goal.returns-in_err-text-clause-read
+returns-in_err-text-clause-read c =
+    gives_up c.from_residual.result _ _ c.from_residual.ensures.1 (record_unnamed _ _ _ _ c.requires.0 c.in_err-text.ensures.read)
 
-pub read_number-numbered-requires : goal.read_number-numbered-requires
-read_number-numbered-requires c = piece_inside c.read_text-named.ensures
+pub returns-in_err-number-clause-read : goal.returns-in_err-number-clause-read
+returns-in_err-number-clause-read c =
+    let p = c.in_ok-text.ensures in
+    gives_up c.from_residual-in_err-number.result _ _ c.from_residual-in_err-number.ensures.1
+    (record_unnumbered _ _ _ _ c.requires.0 p.file p.read c.in_err-number.ensures.read)
 
-pub overflow_add-named : goal.overflow_add-named
-overflow_add-named c = omega (arith, piece_inside c.read_text-named.ensures)
+pub returns-in_err-cells-clause-read : goal.returns-in_err-cells-clause-read
+returns-in_err-cells-clause-read c =
+    let p = c.in_ok-text.ensures in
+    let q = c.in_ok-number.ensures in
+    gives_up c.from_residual-in_err-cells.result _ _ c.from_residual-in_err-cells.ensures.1
+    (record_unfilled _ _ _ _ c.requires.0 p.file p.read q.file q.read c.in_err-cells.ensures.read)
 
-pub returns-then-numbered-named : goal.returns-then-numbered-named
-returns-then-numbered-named c =
-    let p = c.read_text-named.ensures in
-    record_numbered _ _ _ _ (omega arith) p (omega arith) c.read_number-numbered.ensures (omega arith)
-
-pub read_cells-filled-requires : goal.read_cells-filled-requires
-read_cells-filled-requires c = value_inside c.read_number-numbered.ensures
-
-pub overflow_add-numbered : goal.overflow_add-numbered
-overflow_add-numbered c = omega (arith, value_inside c.read_number-numbered.ensures)
-
-pub returns-then-filled-numbered : goal.returns-then-filled-numbered
-returns-then-filled-numbered c =
-    let p = c.read_text-named.ensures in
-    let q = c.read_number-numbered.ensures in
-    record_filled _ _ _ _ (omega arith) p (omega arith) q (omega arith) c.read_cells-filled.ensures (omega arith)
-
-pub read_text-requires : goal.read_text-requires
-read_text-requires c = piece_inside c.read_cells-filled.ensures
-
-pub returns : goal.returns
-returns c =
-    let p = c.read_text-named.ensures in
-    let q = c.read_number-numbered.ensures in
-    let b = c.read_cells-filled.ensures in
-    record_whole _ _ _ _ (omega arith) p (omega arith) q (omega arith) b (omega arith) c.read_text.ensures
+pub returns-clause-read : goal.returns-clause-read
+returns-clause-read c =
+    let m = c.requires.0 in
+    let p = c.in_ok-text.ensures in
+    let q = c.in_ok-number.ensures in
+    let b = c.in_ok-cells.ensures in
+    MatchResult-weaker _ c.text-2.ensures.read (λ x w. record_whole _ _ _ _ m p.file p.read q.file q.read b.file b.read w)
+    (λ y f. record_unended _ _ _ _ m p.file p.read q.file q.read b.file b.read f)

@@ -1,23 +1,27 @@
--- `records::read_sizes` meets its contract: the mark and the two numbers, each with the exit where s does not fit. Assumes nothing.
-use native.Mathlib.Omega.{arith}
-use Rattle.layout.proofs.Stops.{piece_inside, value_inside}
-use Rattle.records.proofs.Lines.{sizes_named, sizes_entities, sizes_whole}
+-- `records::read_sizes` meets its contract: the mark and the two numbers, each with the exit where the file does not fit. Assumes nothing.
+use Rattle.readers.proofs.Steps.{gives_up}
+use Rattle.records.proofs.Lines.{sizes_unnamed, sizes_uncounted, sizes_unright, sizes_whole}
 use Rattle.records.proofs.read_sizes.Goals as goal
 
-pub returns-then-named-lt2 : goal.returns-then-named-lt2
-returns-then-named-lt2 c = sizes_named _ (omega arith) c.read_text-named.ensures _ _ (omega arith)
+pub returns-in_err-text-clause-read : goal.returns-in_err-text-clause-read
+returns-in_err-text-clause-read c =
+    gives_up c.from_residual.result _ _ c.from_residual.ensures.1 (sizes_unnamed _ c.requires c.in_err-text.ensures.read)
 
-pub read_number-entities-requires : goal.read_number-entities-requires
-read_number-entities-requires c = omega (arith, piece_inside c.read_text-named.ensures)
+pub returns-in_err-n-clause-read : goal.returns-in_err-n-clause-read
+returns-in_err-n-clause-read c =
+    let p = c.in_ok-text.ensures in
+    gives_up c.from_residual-in_err-n.result _ _ c.from_residual-in_err-n.ensures.1
+    (sizes_uncounted _ c.requires p.file p.read c.in_err-n.ensures.read)
 
-pub returns-then-entities-lt4 : goal.returns-then-entities-lt4
-returns-then-entities-lt4 c = sizes_entities _ (omega arith) c.read_text-named.ensures (omega arith) c.read_number-entities.ensures _ (omega arith)
+pub returns-in_err-k-clause-read : goal.returns-in_err-k-clause-read
+returns-in_err-k-clause-read c =
+    let p = c.in_ok-text.ensures in
+    let q = c.in_ok-n.ensures in
+    gives_up c.from_residual-in_err-k.result _ _ c.from_residual-in_err-k.ensures.1
+    (sizes_unright _ c.requires p.file p.read q.file q.read c.in_err-k.ensures.read)
 
-pub read_digit-requires : goal.read_digit-requires
-read_digit-requires c = omega (arith, value_inside c.read_number-entities.ensures)
-
-pub returns : goal.returns
-returns c =
-    let p = c.read_text-named.ensures in
-    let q = c.read_number-entities.ensures in
-    sizes_whole _ (omega arith) p (omega arith) q (omega arith) c.read_digit.ensures
+pub returns-clause-read : goal.returns-clause-read
+returns-clause-read c =
+    let p = c.in_ok-text.ensures in
+    let q = c.in_ok-n.ensures in
+    sizes_whole _ c.requires p.file p.read q.file q.read c.in_ok-k.ensures.read

@@ -1,8 +1,10 @@
 -- `soroluzko::weave_bytes` meets its contract: the room for every answer is known before anything is written, and then the answer is put down.
 -- Assumes nothing.
 use mathlib.Core.Path.{◌≡◌, sym, ◌∙◌}
+use borrow.Author.Rules.{rules}
 use lib.ListN.{length}
-use Rattle.model.specs.declared.Checked.TheVariants.{Fine}
+use Rattle.std.specs.Prelude.{Ok, Err}
+use Rattle.model.specs.declared.Fault.TheVariants.{Room}
 use Rattle.model.specs.Refusal.{checked}
 use Rattle.model.specs.Rules.{room_rules}
 use Rattle.model.proofs.Rules.{room_fine}
@@ -10,23 +12,24 @@ use Rattle.files.proofs.Writes.{written_bad, written_fine}
 use Rattle.woven.specs.Weave.{longest}
 use Rattle.woven.proofs.Claims.{woven_total}
 use Rattle.soroluzko.proofs.weave_bytes.Goals as goal
-use Rattle.soroluzko.proofs.weave_bytes.Goals.{In_default}
+use Rattle.soroluzko.proofs.weave_bytes.Goals.{In_ok-room_fits}
 
-roomy : (c : In_default) → checked (room_rules 11 (length c.args.output.now) longest) ≡ Fine
-roomy c = sym c.room_fits-room.ensures ∙ c.in_default.is
+roomy : (c : In_ok-room_fits) → checked (room_rules Room (length c.args.output.now) longest) ≡ Ok tt
+roomy c = sym c.room_fits.ensures ∙ c.in_ok-room_fits.was
 
-pub returns-in-Bad : goal.returns-in-Bad
-returns-in-Bad c =
+pub returns-in_err-room_fits : goal.returns-in_err-room_fits
+returns-in_err-room_fits c =
     let a = c.args in
-    let bad = sym c.room_fits-room.ensures ∙ c.in-Bad.is in
+    let same : c.from_residual.result ≡ Err c.in_err-room_fits.field-0.0 = search rules in
+    let bad = sym c.room_fits.ensures ∙ c.in_err-room_fits.was in
     let (t, w) = woven_total a.input.now in
-    (t, w, written_bad (room_rules 11 (length a.output.now) longest) t a.output.now _ bad)
+    rw same (t, w, written_bad (room_rules Room (length a.output.now) longest) t a.output.now _ bad)
 
 pub weave-requires : goal.weave-requires
-weave-requires c = room_fine 11 _ longest (roomy (goal.at.weave-requires c).In_default)
+weave-requires c = room_fine Room _ longest (roomy (goal.at.weave-requires c).In_ok-room_fits)
 
 pub returns : goal.returns
 returns c =
     let out = c.args.output.now in
     let q = c.weave.ensures in
-    (q.answer, q.woven, written_fine (room_rules 11 (length out) longest) q.answer out _ _ (roomy (goal.at.returns c).In_default) q.told q.left)
+    (q.answer, q.woven, written_fine (room_rules Room (length out) longest) q.answer out _ _ (roomy (goal.at.returns c).In_ok-room_fits) q.told q.left)
