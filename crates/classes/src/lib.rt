@@ -10,7 +10,7 @@ ghost use Rattle.classes.specs.Members.{nth, Members};
 
 use model::Matrix;
 
-// The classes of a matrix: the domain of each entity, and the smallest member of each of so many domains.
+// The classes of a matrix: the domain of each entity, and the smallest member of each of so many domains. Arrays with a count, since there is no heap.
 #[derive(Clone, Copy)]
 pub struct Classes<'a> {
     pub of: Matrix<'a>,

@@ -1,4 +1,5 @@
-// Two entities tested by the clauses of Definition 2.11 in their order. A sender's row is read where it stands in the matrix.
+// Two entities tested by the clauses of Definition 2.11 in their order, as the alike call is asked to; `lines` has the same promise, for the build.
+// A sender's row is read where it stands in the matrix.
 
 #![tactic(auto)]
 

@@ -1,4 +1,4 @@
-// The words that C gets for the answers of the calls on matrices and policies, case by case.
+// The words that C gets for the answers of ask, alike and judge, case by case; the build's is `word::size_word`.
 
 #![tactic(auto)]
 
@@ -17,11 +17,7 @@ pub fn flag_word(answer: Result<bool, Refusal>) -> u64
     requires { Held (1 ∷ []) (told flag answer) }
     ensures { result ≡ word (1 ∷ []) (told flag answer) }
 {
-    match answer {
-        Ok(true) => 256,
-        Ok(false) => 0,
-        Err(r) => word::refusal_word(r),
-    }
+    word::answer_word(answer, |yes| if yes { 256 } else { 0 })
 }
 
 #[tactic(auto, unfolding(word::specs::Word::word, word::specs::Word::fields))]
@@ -29,11 +25,10 @@ pub fn judged_word(judged: Result<Verdict, Refusal>) -> u64
     requires { JudgeHeld (judged_told judged) }
     ensures { result ≡ word (8 ∷ 16 ∷ 8 ∷ []) (judged_told judged) }
 {
-    match judged {
-        Ok(Verdict::Enforces(domains)) => 65536 * domains as u64,
-        Ok(Verdict::Conflict { cell, logged }) => {
+    word::answer_word(judged, |verdict| match verdict {
+        Verdict::Enforces(domains) => 65536 * domains as u64,
+        Verdict::Conflict { cell, logged } => {
             256 + 65536 * cell as u64 + 4294967296 * logged as u64
         }
-        Err(r) => word::refusal_word(r),
-    }
+    })
 }

@@ -3,27 +3,27 @@
 #![tactic(auto)]
 
 ghost use Rattle.std.specs.Prelude.{◌≡◌, ◌*◌, ◌<◌, length, unwrap_or, IfSome};
-ghost use Rattle.model.specs.Policy.{policy, Within};
+ghost use Rattle.model.specs.Laid.{granting};
 ghost use Rattle.model.specs.Clash.{clash_test};
 ghost use Rattle.conflicts.specs.Conflict.{conflict};
 
-use model::Matrix;
+use model::{Matrix, Policy};
 
-// The first cell, in cell order, whose logged value the policy contradicts, or none. The first one ends the scan.
-pub fn first_conflict(m: &Matrix, d: usize, assignment: &[u8], table: &[u8]) -> Option<usize>
-    requires { Within m.now.n m.now.k (policy d assignment.now table.now) }
-    ensures first { unwrap_or result (m.now.n * m.now.k * m.now.n)
-        ≡ conflict m.now.n m.now.k m.now.cells.now (policy d assignment.now table.now) }
+// The first cell, in cell order, whose logged value the policy contradicts, or none. The first one ends the scan. Document 01 names the form: three
+// loops, left by a label at that cell; `cell` counts through all three.
+pub fn first_conflict(m: &Matrix, p: &Policy) -> Option<usize>
+    requires { (p.now.n ≡ m.now.n) × (p.now.k ≡ m.now.k) }
+    ensures first { unwrap_or result (m.now.n * m.now.k * m.now.n) ≡ conflict m.now.n m.now.k m.now.cells.now (granting p.now) }
     ensures inside { IfSome result (λ i. i < length m.now.cells.now) }
 {
     let mut found = None;
     let mut cell = 0;
     'cells: for u in 0..m.n {
-        let p = assignment[u] as usize;
+        let sends = p.assignment[u] as usize;
         for a in 0..m.k {
-            let row = (p * m.k + a) * d;
+            let row = (sends * m.k + a) * p.domains;
             for v in 0..m.n {
-                if contradicts(m.cells[cell], table[row + assignment[v] as usize]) {
+                if contradicts(m.cells[cell], p.table[row + p.assignment[v] as usize]) {
                     found = Some(cell);
                     break 'cells;
                 }

@@ -15,10 +15,7 @@ pub fn read_matrix_word(read: Result<MatrixSizes, Refusal>) -> u64
     requires { Held (8 ∷ 8 ∷ []) (read_matrix_told read) }
     ensures { result ≡ word (8 ∷ 8 ∷ []) (read_matrix_told read) }
 {
-    match read {
-        Ok(z) => 256 * z.n as u64 + 65536 * z.k as u64,
-        Err(r) => word::refusal_word(r),
-    }
+    word::answer_word(read, |z| 256 * z.n as u64 + 65536 * z.k as u64)
 }
 
 #[tactic(auto, unfolding(word::specs::Word::word, word::specs::Word::fields))]
@@ -26,8 +23,7 @@ pub fn read_policy_word(read: Result<PolicySizes, Refusal>) -> u64
     requires { Held (8 ∷ 8 ∷ 8 ∷ []) (read_policy_told read) }
     ensures { result ≡ word (8 ∷ 8 ∷ 8 ∷ []) (read_policy_told read) }
 {
-    match read {
-        Ok(z) => 256 * z.n as u64 + 65536 * z.k as u64 + 16777216 * z.d as u64,
-        Err(r) => word::refusal_word(r),
-    }
+    word::answer_word(read, |z| {
+        256 * z.n as u64 + 65536 * z.k as u64 + 16777216 * z.d as u64
+    })
 }

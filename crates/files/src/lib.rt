@@ -78,6 +78,6 @@ pub fn write_policy(
     ensures { Written (policy_write_rules n k (policy d assignment.now table.now) (length file.old))
         (policy_text n k (policy d assignment.now table.now)) file.old (wrote_told result) file.new }
 {
-    writable::policy_fits(n, k, d, assignment, table, file.len())?;
-    Ok(texts::put_policy(n, k, d, assignment, table, file))
+    let p = writable::policy_fits(n, k, d, assignment, table, file.len())?;
+    Ok(texts::put_policy(&p, file))
 }

@@ -1,4 +1,4 @@
-// What stands in a file that is known to fit, taken from its places: numbers, and cells into a buffer.
+// What stands in a file that is known to fit, taken from its places: numbers, and cells into a buffer. Nothing is tested again, so no reader stands here.
 
 #![tactic(auto)]
 

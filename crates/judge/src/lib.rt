@@ -7,7 +7,7 @@ ghost use Rattle.model.specs.Policy.{policy};
 ghost use Rattle.model.specs.Refusal.{checked};
 ghost use Rattle.judge.specs.Judge.{judge_rules, Judges};
 
-use model::{Matrix, Refusal};
+use model::{Matrix, Policy, Refusal};
 
 // What a policy is found to be: it enforces, with so many domains; or it conflicts at a cell, where that value is logged.
 #[derive(Clone, Copy, Debug, PartialEq, Eq)]
@@ -35,7 +35,14 @@ pub fn judge(
         k,
         cells: matrix,
     };
-    let Some(cell) = conflicts::first_conflict(&m, d, assignment, table) else {
+    let p = Policy {
+        n,
+        k,
+        domains: d,
+        assignment,
+        table,
+    };
+    let Some(cell) = conflicts::first_conflict(&m, &p) else {
         return Ok(Verdict::Enforces(d));
     };
     let logged = matrix[cell];

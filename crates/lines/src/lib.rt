@@ -20,7 +20,7 @@ pub fn same(m: &Matrix, u: usize, v: usize) -> bool
     same_row(&m.cells[i..i + row], &m.cells[j..j + row]) && same_columns(m, u, v)
 }
 
-// Whether two rows of one length are the same, by blocks of 64 cells.
+// Whether two rows of one length are the same, by blocks of 64 cells: `==` takes longer on rows of 128 to 512 cells.
 fn same_row(r: &[u8], s: &[u8]) -> bool
     requires { length r.now ≡ length s.now }
     ensures { result ≡ same_test (length r.now) r.now s.now }
@@ -51,7 +51,7 @@ fn all_same<const BLOCK: usize, F: Fn(usize) -> bool>(count: usize, same: F) -> 
     block_same(count - rest, rest, &same)
 }
 
-// The same at `count` numbers from i on. There is no branch inside, so that the compiler takes many bytes at a time.
+// The same at `count` numbers from i on. There is no branch inside, so that the compiler takes many at a time where they stand side by side.
 fn block_same<F: Fn(usize) -> bool>(i: usize, count: usize, same: F) -> bool
     requires fits { i + count < 2 ^ 64 }
     requires callable { (j : ℕ) → i ≤ j → j < i + count → F.pre same j }

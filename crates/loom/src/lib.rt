@@ -7,6 +7,7 @@ ghost use Rattle.model.specs.Matrix.{Holds};
 ghost use Rattle.model.specs.Refusal.{over};
 ghost use Rattle.woven.specs.Weave.{answer_text, longest, Wove};
 
+use model::Policy;
 use places::MatrixSizes;
 
 // The answer to a matrix that is within the limits, and its length. The policy is built in the two buffers that are lent.
@@ -24,7 +25,16 @@ fn put_answer(
     ensures output_after { output.new ≡ over (answer_text n k matrix.now) output.old }
 {
     match build::build(n, k, matrix, assignment, table) {
-        Ok(d) => texts::put_policy(n, k, d, &assignment[..n], &table[..d * k * d], output),
+        Ok(d) => {
+            let p = Policy {
+                n,
+                k,
+                domains: d,
+                assignment: &assignment[..n],
+                table: &table[..d * k * d],
+            };
+            texts::put_policy(&p, output)
+        }
         Err(r) => refusals::put_refusal(r, output),
     }
 }

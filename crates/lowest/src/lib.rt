@@ -1,20 +1,28 @@
-// The one scan for the lowest place that is at fault, by blocks.
+// The scans of bytes: whether some byte passes a test, and the lowest place that is at fault, by blocks.
 
 #![tactic(auto)]
 
-ghost use Rattle.std.specs.Prelude.{◌≡◌, ◌+◌, ◌<◌, min, leb, length, get_or, position};
+ghost use Rattle.std.specs.Prelude.{◌≡◌, ℕ, Bool, ◌+◌, ◌<◌, min, leb, length, get_or, position};
 ghost use Rattle.model.specs.Below.{any};
 ghost use Rattle.lowest.specs.Place.{IsLowest};
 
-// Whether some byte is b or more. There is no branch inside, so that the compiler takes many bytes at a time.
-fn reaches(s: &[u8], b: u8) -> bool
-    ensures { result ≡ any (length s.now) (λ i. leb b (get_or s.now i 0)) }
+// Whether some byte passes the test. There is no branch inside, so that the compiler takes many bytes at a time.
+pub fn some_passes<F: Fn(u8) -> bool>(s: &[u8], test: F) -> bool
+    requires { F.IsAlwaysCallable test }
+    ensures { (p : ℕ → Bool) → ((x : ℕ) (y : Bool) → x < 256 → F.post test x y → y ≡ p x) → result ≡ any (length s.now) (λ i. p (get_or s.now i 0)) }
 {
     let mut found = false;
     for x in s {
-        found = found | (b <= *x);
+        found = found | test(*x);
     }
     found
+}
+
+// Whether some byte is b or more.
+fn reaches(s: &[u8], b: u8) -> bool
+    ensures { result ≡ any (length s.now) (λ i. leb b (get_or s.now i 0)) }
+{
+    some_passes(s, |x| b <= x)
 }
 
 // The lowest place of a byte that is b or more: byte by byte.
@@ -37,7 +45,7 @@ fn lowest_by_blocks(s: &[u8], b: u8) -> Option<usize>
     None
 }
 
-// The end of the block that starts at i: the last one may be shorter.
+// The end of the block that starts at i: the last one may be shorter. By `chunks` no wrong program could go past the end, and one must be refused.
 fn block_end(i: usize, end: usize) -> usize
     requires { i < end }
     ensures { result ≡ min (i + 256) end }

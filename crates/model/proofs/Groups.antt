@@ -12,7 +12,7 @@ use Rattle.model.specs.declared.Fault.{Fault}
 use Rattle.model.specs.declared.Fault.TheVariants.{Limit, MatrixLength, MatrixCell, Unlogged, AssignmentLength, DomainNumber}
 use Rattle.model.specs.declared.Fault.TheVariants.{TableLength, TableCell, OutOfRange, AssignmentRoom, Room, FileForm}
 use Rattle.model.specs.declared.Refusal.{Refusal}
-use Rattle.std.specs.Prelude.{Result, Ok, Err}
+use Rattle.std.specs.Prelude.{Result, Ok, Err, IsErrAnd}
 use Rattle.model.specs.Refusal.{Rule, Checked, number_of, checked, values, refused, told_refusal, tell, told, single, flag, held}
 
 -- what turns a test of the code into the value of a rule's test
@@ -113,6 +113,12 @@ told_fine (Err r) vs ws e = absurd (values_refused vs _ _ e)
 pub told_bad : (c : Checked) (r : Refusal) (ws : List ℕ) → told_refusal r ≡ tell c ws → c ≡ Err r
 told_bad (Ok _) r ws e = absurd (values_refused ws _ _ (sym e))
 told_bad (Err s) r ws e = ap Err (sym (refusal_told r s e))
+
+-- ---- what a `?` hands on is the refusal that it met
+
+pub handed_on : {A : Type 0} (answer : Result A Refusal) {r : Refusal} → IsErrAnd answer (λ s. s ≡ r) → answer ≡ Err r
+handed_on (Ok x) h = absurd h
+handed_on (Err s) h = ap Err h
 
 -- ---- answers that tell the same are the same, where values are those of one answer
 

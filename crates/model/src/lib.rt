@@ -3,6 +3,7 @@
 #![tactic(auto)]
 
 ghost use Rattle.model.specs.Matrix.{Laid};
+ghost use Rattle.model.specs.Policy.{policy, Within};
 
 // Why a call refuses, by its number (01, "Numbers of refusal").
 #[derive(Clone, Copy, Debug, PartialEq, Eq)]
@@ -46,4 +47,15 @@ pub struct Matrix<'a> {
     pub k: usize,
     pub cells: &'a [u8],
     ghost laid: { Laid n k cells.now },
+}
+
+// A policy within the limits, for n entities and k rights: the domain of each entity, and the table between so many domains.
+#[derive(Clone, Copy)]
+pub struct Policy<'a> {
+    pub n: usize,
+    pub k: usize,
+    pub domains: usize,
+    pub assignment: &'a [u8],
+    pub table: &'a [u8],
+    ghost within: { Within n k (policy domains assignment.now table.now) },
 }

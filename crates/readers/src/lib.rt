@@ -1,4 +1,4 @@
-// The pieces of a file, read. A reader answers whether its piece is there, or the place of the first byte that does not fit it.
+// The pieces of a file, read. A piece that is there is answered by its value, if it has one; else by the place of the first byte that does not fit.
 
 #![tactic(auto)]
 
@@ -7,22 +7,19 @@ ghost use Rattle.std.specs.Prelude.{IfOk, MatchOption, MatchResult};
 ghost use Rattle.model.specs.Below.{any};
 ghost use Rattle.layout.specs.Layout.{digit_of, cell_of};
 
-// The value of a digit, and 10 of any other byte.
+// The value of a digit, and 10 of any other byte, as the definition has it.
 #[tactic(auto, unfolding(layout::specs::Layout::digit_of))]
 pub fn digit_of(x: u8) -> usize
     ensures value { result ≡ digit_of x }
     ensures upper_bound { result ≤ 10 }
 {
-    if x < 48 {
-        return 10;
+    match x {
+        b'0'..=b'9' => x as usize - 48,
+        _ => 10,
     }
-    if 57 < x {
-        return 10;
-    }
-    x as usize - 48
 }
 
-// The value of a cell's character, and 3 of any other byte.
+// The value of a cell's character, and 3 of any other byte, as the definition has it: one comparison with a limit tells what does not fit.
 #[tactic(auto, unfolding(layout::specs::Layout::cell_of))]
 pub fn cell_of(x: u8) -> u8
     ensures { result ≡ cell_of x }
@@ -38,15 +35,11 @@ pub fn cell_of(x: u8) -> u8
     }
 }
 
-// Whether some byte is no character of a cell below lim. There is no branch inside, so that the compiler takes many bytes at a time.
+// Whether some byte is no character of a cell below lim.
 fn strays(s: &[u8], lim: u8) -> bool
     ensures { result ≡ any (length s.now) (λ i. leb lim (cell_of (get_or s.now i 0))) }
 {
-    let mut found = false;
-    for x in s {
-        found = found | (lim <= cell_of(*x));
-    }
-    found
+    lowest::some_passes(s, |x| lim <= cell_of(x))
 }
 
 // The first byte that is no character of a cell below lim. Only where there is one they are looked through one by one.
@@ -87,11 +80,7 @@ impl<'a> Reader<'a> {
         ensures { MatchResult result (λ x. (self.now.at < length self.now.file.now) × (x ≡ get_or self.now.file.now self.now.at 0))
             (λ p. (p ≡ self.now.at) × (p ≡ length self.now.file.now)) }
     {
-        if self.at < self.file.len() {
-            Ok(self.file[self.at])
-        } else {
-            Err(self.at)
-        }
+        self.file.get(self.at).copied().ok_or(self.at)
     }
 
     // The value of the next byte as a digit, or the place where the file ends.

@@ -11,12 +11,12 @@ use readers::Reader;
 // Record u: a mark, u, w cells below lim, a line feed.
 pub fn read_record(
     reader: &mut Reader,
-    mark: &[u8],
+    mark: &[u8; 2],
     lim: u8,
     w: usize,
     u: usize,
 ) -> Result<(), usize>
-    requires { (length mark.now ≡ 2) × (u < 100) }
+    requires { u < 100 }
     ensures file { reader.new.file.now ≡ reader.old.file.now }
     ensures read { Reads reader.old reader.new (w + 5) (record_of mark.now lim w u) (λ _ F. F) result }
 {
@@ -29,12 +29,12 @@ pub fn read_record(
 // c records of w cells below lim each.
 pub fn read_records(
     reader: &mut Reader,
-    mark: &[u8],
+    mark: &[u8; 2],
     lim: u8,
     w: usize,
     c: usize,
 ) -> Result<(), usize>
-    requires { (length mark.now ≡ 2) × (c ≤ 64) }
+    requires { c ≤ 64 }
     ensures file { reader.new.file.now ≡ reader.old.file.now }
     ensures read { Reads reader.old reader.new (c * (w + 5)) (records mark.now lim w c) (λ _ F. F) result }
 {
@@ -45,8 +45,7 @@ pub fn read_records(
 }
 
 // A mark, the number of entities, that of rights.
-pub fn read_sizes(reader: &mut Reader, mark: &[u8]) -> Result<(usize, usize), usize>
-    requires { length mark.now ≡ 2 }
+pub fn read_sizes(reader: &mut Reader, mark: &[u8; 2]) -> Result<(usize, usize), usize>
     ensures file { reader.new.file.now ≡ reader.old.file.now }
     ensures read { Reads reader.old reader.new 5 (sizes mark.now) (λ z F. F z.0 z.1) result }
     ensures entities { IfOk result (λ z. (z.0 ≡ number_at reader.old.file.now (reader.old.at + 2)) × (z.0 ≤ 64)) }

@@ -9,8 +9,8 @@ ghost use Rattle.writers.specs.Writes.{HasRoom, Writes};
 use writers::Writer;
 
 // Record u, of w cells.
-pub fn put_record(out: &mut Writer, mark: &[u8], u: usize, w: usize, cells: &[u8])
-    requires { (length mark.now ≡ 2) × (u < 100) × HasRoom out.old (w + 5) × (u * w + w ≤ length cells.now) }
+pub fn put_record(out: &mut Writer, mark: &[u8; 2], u: usize, w: usize, cells: &[u8])
+    requires { (u < 100) × HasRoom out.old (w + 5) × (u * w + w ≤ length cells.now) }
     ensures written { Writes out.old out.new (record_text mark.now w cells.now u) }
     ensures ends { out.new.at ≡ out.old.at + (w + 5) }
 {
@@ -21,8 +21,8 @@ pub fn put_record(out: &mut Writer, mark: &[u8], u: usize, w: usize, cells: &[u8
 }
 
 // c records of w cells each.
-pub fn put_records(out: &mut Writer, mark: &[u8], c: usize, w: usize, cells: &[u8])
-    requires { (length mark.now ≡ 2) × (c ≤ 100) × HasRoom out.old (c * (w + 5)) × (c * w ≤ length cells.now) }
+pub fn put_records(out: &mut Writer, mark: &[u8; 2], c: usize, w: usize, cells: &[u8])
+    requires { (c ≤ 100) × HasRoom out.old (c * (w + 5)) × (c * w ≤ length cells.now) }
     ensures written { Writes out.old out.new (each c (record_text mark.now w cells.now)) }
     ensures ends { out.new.at ≡ out.old.at + c * (w + 5) }
 {
@@ -32,8 +32,8 @@ pub fn put_records(out: &mut Writer, mark: &[u8], c: usize, w: usize, cells: &[u
 }
 
 // A mark, the number of entities, that of rights.
-pub fn put_sizes(out: &mut Writer, mark: &[u8], n: usize, k: usize)
-    requires { (length mark.now ≡ 2) × (n < 100) × (k < 10) × HasRoom out.old 5 }
+pub fn put_sizes(out: &mut Writer, mark: &[u8; 2], n: usize, k: usize)
+    requires { (n < 100) × (k < 10) × HasRoom out.old 5 }
     ensures { Writes out.old out.new (mark.now ++ (two n ++ one k)) }
 {
     out.put(mark);

@@ -17,7 +17,7 @@ pub fn refuse(fault: Fault, place: usize) -> Refusal
     Refusal { fault, place }
 }
 
-// A refusal that names a cell, among k rights and y receivers.
+// A refusal that names a cell, among k rights and y receivers: `cell_refusal` has both from the start, for the fields that are to come.
 #[tactic(auto, unfolding(model::specs::Refusal::cell_refusal))]
 pub fn refuse_cell(fault: Fault, k: usize, y: usize, cell: usize) -> Refusal
     ensures { result ≡ cell_refusal fault k y cell }
@@ -33,7 +33,7 @@ pub fn cell_at(x: usize, k: usize, y: usize, p: usize, a: usize, q: usize) -> us
     (p * k + a) * y + q
 }
 
-// 1: n above 64; k 0 or above 8; d above 64. A call that has no d passes 0.
+// 1: n above 64; k 0 or above 8; d above 64. The place is the number's, and a call that has no d passes 0, as `size_rules` and `whole_rules` have it.
 #[tactic(auto, using(model::proofs::Groups::tests), unfolding(model::specs::Rules::size_rules))]
 pub fn sizes(n: usize, k: usize, d: usize) -> Result<(), Refusal>
     ensures { result ≡ checked (size_rules n k d) }

@@ -19,7 +19,7 @@ pub fn put_assignment(n: usize, domains: &[u8], assignment: &mut [u8])
     assignment[..n].copy_from_slice(&domains[..n]);
 }
 
-// The table of the members' cells, in cell order.
+// The table of the members' cells, in cell order. `to` counts through all three loops: as (p·k + a)·d + q it would be longer and no plainer.
 pub fn put_table(c: &Classes, table: &mut [u8])
     requires { c.now.count * c.now.of.k * c.now.count ≤ length table.old }
     ensures { table.new

@@ -2,13 +2,15 @@
 
 #![tactic(auto)]
 
-ghost use Rattle.std.specs.Prelude.{◌≡◌, ◌++◌, ℕ, ◌+◌, ◌*◌, ◌≤◌, ◌<◌, length, get_or};
+ghost use Rattle.std.specs.Prelude.{◌≡◌, ◌++◌, ◌+◌, ◌*◌, ◌≤◌, length};
 ghost use Rattle.model.specs.Matrix.{Holds};
-ghost use Rattle.model.specs.Policy.{policy, Within};
+ghost use Rattle.model.specs.Laid.{granting};
+ghost use Rattle.model.specs.Policy.{domain_of};
 ghost use Rattle.model.specs.Refusal.{over};
 ghost use Rattle.layout.specs.Text.{PD, AS, each, one, two, line, matrix_text, policy_text};
 ghost use Rattle.writers.specs.Writes.{HasRoom, Writes};
 
+use model::Policy;
 use writers::Writer;
 
 // The file, and its length.
@@ -27,45 +29,36 @@ pub fn put_matrix(n: usize, k: usize, matrix: &[u8], file: &mut [u8]) -> usize
 }
 
 // The file, and its length.
-pub fn put_policy(
-    n: usize,
-    k: usize,
-    d: usize,
-    assignment: &[u8],
-    table: &[u8],
-    file: &mut [u8],
-) -> usize
-    requires within { Within n k (policy d assignment.now table.now) }
-    requires file_has_room { length (policy_text n k (policy d assignment.now table.now)) ≤ length file.old }
-    ensures value { result ≡ length (policy_text n k (policy d assignment.now table.now)) }
-    ensures file_after { file.new ≡ over (policy_text n k (policy d assignment.now table.now)) file.old }
+pub fn put_policy(p: &Policy, file: &mut [u8]) -> usize
+    requires file_has_room { length (policy_text p.now.n p.now.k (granting p.now)) ≤ length file.old }
+    ensures value { result ≡ length (policy_text p.now.n p.now.k (granting p.now)) }
+    ensures file_after { file.new ≡ over (policy_text p.now.n p.now.k (granting p.now)) file.old }
 {
     let mut out = Writer::new(file);
-    put_head(&mut out, n, k, d);
-    put_assigned(&mut out, assignment);
-    rows::put_records(&mut out, b"TB", d, k * d, table);
+    put_head(&mut out, p);
+    put_assigned(&mut out, p);
+    rows::put_records(&mut out, b"TB", p.domains, p.k * p.domains, p.table);
     rows::put_close(&mut out);
     out.at
 }
 
 // The first line.
-fn put_head(out: &mut Writer, n: usize, k: usize, d: usize)
-    requires { (n < 100) × (k < 10) × (d < 100) × HasRoom out.old 8 }
-    ensures { Writes out.old out.new (line (PD ++ (two n ++ (one k ++ two d)))) }
+fn put_head(out: &mut Writer, p: &Policy)
+    requires { HasRoom out.old 8 }
+    ensures { Writes out.old out.new (line (PD ++ (two p.now.n ++ (one p.now.k ++ two p.now.domains)))) }
 {
-    rows::put_sizes(out, b"PD", n, k);
-    out.put_number(d);
+    rows::put_sizes(out, b"PD", p.n, p.k);
+    out.put_number(p.domains);
     out.put(b"\n");
 }
 
 // The second line.
-fn put_assigned(out: &mut Writer, assignment: &[u8])
-    requires file_has_room { HasRoom out.old (3 + length assignment.now * 2) }
-    requires below_100 { (i : ℕ) → i < length assignment.now → get_or assignment.now i 0 < 100 }
-    ensures written { Writes out.old out.new (line (AS ++ each (length assignment.now) (λ u. two (get_or assignment.now u 0)))) }
-    ensures ends { out.new.at ≡ out.old.at + (3 + length assignment.now * 2) }
+fn put_assigned(out: &mut Writer, p: &Policy)
+    requires { HasRoom out.old (3 + p.now.n * 2) }
+    ensures written { Writes out.old out.new (line (AS ++ each p.now.n (λ u. two (domain_of (granting p.now) u)))) }
+    ensures ends { out.new.at ≡ out.old.at + (3 + p.now.n * 2) }
 {
     out.put(b"AS");
-    out.put_numbers(assignment);
+    out.put_numbers(p.assignment);
     out.put(b"\n");
 }

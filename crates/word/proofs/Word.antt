@@ -9,7 +9,7 @@ use borrow.Author.Tests.{eq-eqb, ne_eqb}
 use lib.Arith.{digits_lt, digits_div, digits_mod}
 use Rattle.model.specs.declared.Refusal.{Refusal}
 use Rattle.model.specs.Refusal.{Checked, Rule, number_of, checked, Told, values, refused, tell}
-use Rattle.std.specs.Prelude.{Ok, Err}
+use Rattle.std.specs.Prelude.{Result, Ok, Err, MatchResult}
 use Rattle.model.proofs.Groups.{Gives, gives_bad}
 use Rattle.word.specs.Word.{fields, unfields, place_bits, word, unword}
 use Rattle.word.specs.Held.{Carried, Fit, none, more, Held}
@@ -110,3 +110,11 @@ told_held ws rs vs g f = go (checked rs) refl
     go : (c : Checked) → checked rs ≡ c → Held ws (tell c vs)
     go (Ok _) e = f e
     go (Err r) e = gives_bad RefusalCarried rs g r e
+
+-- ---- the word of an answer
+
+-- what `answer_word` asks, case by case
+pub asked : {A : Type 0} (answer : Result A Refusal) {P : A → Type 0} {Q : Refusal → Type 0}
+    → ((x : A) → answer ≡ Ok x → P x) → ((r : Refusal) → answer ≡ Err r → Q r) → MatchResult answer P Q
+asked (Ok x) f g = f x refl
+asked (Err r) f g = g r refl

@@ -40,6 +40,22 @@ module _ (n k : ℕ) (m : List ℕ) (room : ℕ) where
 
 -- ---- a policy
 
+-- past the first three groups it is within the limits
+pub policy_within : (n k : ℕ) (P : Policy) → checked (size_rules n k P.domains) ≡ Ok tt → checked (assignment_rules n P.domains P.assignment) ≡ Ok tt
+    → checked (table_rules k P.domains P.table) ≡ Ok tt → Within n k P
+unfolding domain_of
+policy_within n k P a b c =
+    let s = sizes_fine n k P.domains a in
+    let l = assignment_fine n P.domains P.assignment b in
+    let t = table_fine k P.domains P.table c in
+    record {
+      entities = s.entities;
+      right = s.right;
+      rights = s.rights;
+      few = s.domains;
+      valid = record { entities = l.long; below = λ u h. l.below u (omega (arith, l.long)); size = t.long; cells = t.below };
+    }
+
 module _ (n k : ℕ) (P : Policy) (room : ℕ) where
   abbrev d : ℕ
   d = P.domains
@@ -55,20 +71,11 @@ module _ (n k : ℕ) (P : Policy) (room : ℕ) where
 
   module _ (fine : checked (policy_write_rules n k P room) ≡ Ok tt) where
     pub policy_writable : Within n k P
-    unfolding policy_write_rules domain_of
+    unfolding policy_write_rules
     policy_writable =
         let (a, b) = groups_fine (size_rules n k d) names_last fine in
         let (c, e) = groups_fine (assignment_rules n d P.assignment) table_last b in
-        let s = sizes_fine n k d a in
-        let l = assignment_fine n d P.assignment c in
-        let t = table_fine k d P.table (groups_fine (table_rules k d P.table) last e).0 in
-        record {
-          entities = s.entities;
-          right = s.right;
-          rights = s.rights;
-          few = s.domains;
-          valid = record { entities = l.long; below = λ u h. l.below u (omega (arith, l.long)); size = t.long; cells = t.below };
-        }
+        policy_within n k P a c (groups_fine (table_rules k d P.table) last e).0
 
     pub policy_enough : length (policy_text n k P) ≤ room
     unfolding policy_write_rules

@@ -2,12 +2,13 @@
 
 #![tactic(auto)]
 
-ghost use Rattle.std.specs.Prelude.{◌≡◌};
+ghost use Rattle.std.specs.Prelude.{◌≡◌, IfOk};
+ghost use Rattle.model.specs.Laid.{finding, granting};
 ghost use Rattle.model.specs.Policy.{policy};
 ghost use Rattle.model.specs.Refusal.{checked};
 ghost use Rattle.writable.specs.Rules.{matrix_write_rules, policy_write_rules};
 
-use model::{Fault, Refusal};
+use model::{Fault, Policy, Refusal};
 
 // 1, 2 and 3: a matrix within the limits; 11: room for its file.
 #[tactic(auto, using(crate::proofs::Rules::fits), unfolding(crate::specs::Rules::matrix_write_rules))]
@@ -21,18 +22,26 @@ pub fn matrix_fits(n: usize, k: usize, matrix: &[u8], room: usize) -> Result<(),
 
 // 1 and 5 to 8: a policy within the limits; 11: room for its file.
 #[tactic(auto, using(crate::proofs::Rules::fits), unfolding(crate::specs::Rules::policy_write_rules))]
-pub fn policy_fits(
+pub fn policy_fits<'a>(
     n: usize,
     k: usize,
     d: usize,
-    assignment: &[u8],
-    table: &[u8],
+    assignment: &'a [u8],
+    table: &'a [u8],
     room: usize,
-) -> Result<(), Refusal>
-    ensures { result ≡ checked (policy_write_rules n k (policy d assignment.now table.now) room) }
+) -> Result<Policy<'a>, Refusal>
+    ensures refusals { finding result ≡ checked (policy_write_rules n k (policy d assignment.now table.now) room) }
+    ensures policy { IfOk result (λ p. (p.n ≡ n) × (p.k ≡ k) × (granting p ≡ policy d assignment.now table.now)) }
 {
     scan::sizes(n, k, d)?;
     lists::assignment_fits(n, d, assignment)?;
     lists::table_fits(k, d, table)?;
-    scan::room_fits(Fault::Room, room, 14 + n * 2 + d * (k * d + 5))
+    scan::room_fits(Fault::Room, room, 14 + n * 2 + d * (k * d + 5))?;
+    Ok(Policy {
+        n,
+        k,
+        domains: d,
+        assignment,
+        table,
+    })
 }

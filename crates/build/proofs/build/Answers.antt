@@ -1,14 +1,13 @@
 -- `build::build` meets its contract: where a rule before the last applies nothing was written; past them the classes are found, and
 -- `write` gives the last refusal or writes the built policy (`Exits`). Assumes nothing.
 use mathlib.Core.Path.{◌≡◌, sym, ◌∙◌}
-use borrow.Author.Rules.{rules}
 use lib.ListN.{length}
-use Rattle.std.specs.Prelude.{Ok, Err}
+use Rattle.std.specs.Prelude.{Ok}
 use Rattle.model.specs.declared.Fault.TheVariants.{AssignmentRoom}
 use Rattle.model.specs.Refusal.{checked}
 use Rattle.model.specs.Rules.{room_rules}
+use Rattle.model.proofs.Groups.{handed_on}
 use Rattle.model.proofs.Rules.{room_fine}
-use Rattle.build.specs.Build.{Builds}
 use Rattle.build.proofs.Exits.{whole_bad, room_bad, wrote}
 use Rattle.build.proofs.build.Goals as goal
 use Rattle.build.proofs.build.Goals.{In_ok-m, In_ok-room_fits}
@@ -20,15 +19,13 @@ room c = sym c.in_ok-room_fits.was ∙ c.room_fits.ensures
 pub returns-in_err-m : goal.returns-in_err-m
 returns-in_err-m c =
     let a = c.args in
-    let same : c.from_residual.result ≡ Err c.in_err-m.field-0.0 = search rules in
-    let told : Builds a.n a.k a.matrix.now a.assignment.now a.table.now c.from_residual.result a.assignment.now a.table.now =
-    rw same (whole_bad a.n a.k a.matrix.now a.assignment.now a.table.now _ c.in_err-m.ensures.refusals) in
-    told
+    let same = handed_on _ c.from_residual.ensures.1 in
+    rw same (whole_bad a.n a.k a.matrix.now a.assignment.now a.table.now _ c.in_err-m.ensures.refusals)
 
 pub returns-in_err-room_fits : goal.returns-in_err-room_fits
 returns-in_err-room_fits c =
     let a = c.args in
-    let same : c.from_residual-in_err-room_fits.result ≡ Err c.in_err-room_fits.field-0.0 = search rules in
+    let same = handed_on _ c.from_residual-in_err-room_fits.ensures.1 in
     rw same (room_bad a.n a.k a.matrix.now a.assignment.now a.table.now c.in_ok-m.ensures.refusals _ (sym c.in_err-room_fits.was ∙ c.room_fits.ensures))
 
 pub write-requires : goal.write-requires

@@ -2,12 +2,12 @@
 use mathlib.Core.Path.{◌≡◌, sym, ◌∙◌}
 use Prim.Native.Nat.{◌*◌}
 use native.Mathlib.Omega.{arith}
-use borrow.Author.Rules.{rules}
 use lib.ListN.{length}
-use Rattle.std.specs.Prelude.{Ok, Err}
+use Rattle.std.specs.Prelude.{Ok}
 use Rattle.model.specs.declared.Fault.TheVariants.{Room}
 use Rattle.model.specs.Refusal.{checked}
 use Rattle.model.specs.Rules.{room_rules}
+use Rattle.model.proofs.Groups.{handed_on}
 use Rattle.model.proofs.Rules.{room_fine}
 use Rattle.files.proofs.Fills.{matrix_bad, MatrixFits, matrix_fits, matrix_limits, matrix_long, matrix_short, matrix_filled}
 use Rattle.files.proofs.read_matrix.Goals as goal
@@ -22,8 +22,8 @@ roomy c = sym c.room_fits.ensures ∙ c.in_ok-room_fits.was
 
 pub returns-in_err-sizes : goal.returns-in_err-sizes
 returns-in_err-sizes c =
-    let same : c.from_residual.result ≡ Err c.in_err-sizes.field-0.0 = search rules in
     let q = c.read_matrix.ensures in
+    let same = handed_on _ c.from_residual.ensures.1 in
     rw same (matrix_bad c.args.file.now c.args.matrix.now c.read_matrix.result _ q.place q.fault c.in_err-sizes.ensures)
 
 pub overflow_mul-k : goal.overflow_mul-k
@@ -34,8 +34,8 @@ overflow_mul-n c = omega (arith, (matrix_limits (fits (goal.at.overflow_mul-n c)
 
 pub returns-in_err-room_fits : goal.returns-in_err-room_fits
 returns-in_err-room_fits c =
-    let same : c.from_residual-in_err-room_fits.result ≡ Err c.in_err-room_fits.field-0.0 = search rules in
     let bad = sym c.room_fits.ensures ∙ c.in_err-room_fits.was in
+    let same = handed_on _ c.from_residual-in_err-room_fits.ensures.1 in
     rw same (matrix_short (fits (goal.at.returns-in_err-room_fits c).In_ok-sizes) c.args.matrix.now _ bad)
 
 pub overflow_mul-k-2 : goal.overflow_mul-k-2

@@ -2,12 +2,12 @@
 use mathlib.Core.Path.{◌≡◌, sym, ◌∙◌}
 use Prim.Native.Nat.{◌*◌}
 use native.Mathlib.Omega.{arith}
-use borrow.Author.Rules.{rules}
 use lib.ListN.{length}
-use Rattle.std.specs.Prelude.{Ok, Err}
+use Rattle.std.specs.Prelude.{Ok}
 use Rattle.model.specs.declared.Fault.TheVariants.{AssignmentRoom, Room}
 use Rattle.model.specs.Refusal.{checked}
 use Rattle.model.specs.Rules.{room_rules}
+use Rattle.model.proofs.Groups.{handed_on}
 use Rattle.model.proofs.Rules.{room_fine}
 use Rattle.files.proofs.Fills.{policy_bad, PolicyFits, policy_fits, policy_limits, policy_entities, policy_long}
 use Rattle.files.proofs.Fills.{names_short, cells_short, policy_filled}
@@ -27,15 +27,15 @@ spacious c = sym c.room_fits-2.ensures ∙ c.in_ok-room_fits-2.was
 
 pub returns-in_err-sizes : goal.returns-in_err-sizes
 returns-in_err-sizes c =
-    let same : c.from_residual.result ≡ Err c.in_err-sizes.field-0.0 = search rules in
     let q = c.read_policy.ensures in
     let a = c.args in
+    let same = handed_on _ c.from_residual.ensures.1 in
     rw same (policy_bad a.file.now a.assignment.now a.table.now c.read_policy.result _ q.place q.fault c.in_err-sizes.ensures)
 
 pub returns-in_err-room_fits : goal.returns-in_err-room_fits
 returns-in_err-room_fits c =
-    let same : c.from_residual-in_err-room_fits.result ≡ Err c.in_err-room_fits.field-0.0 = search rules in
     let bad = sym c.room_fits.ensures ∙ c.in_err-room_fits.was in
+    let same = handed_on _ c.from_residual-in_err-room_fits.ensures.1 in
     rw same (names_short (fits (goal.at.returns-in_err-room_fits c).In_ok-sizes) c.args.assignment.now c.args.table.now _ bad)
 
 pub overflow_mul-k : goal.overflow_mul-k
@@ -46,9 +46,9 @@ overflow_mul-d c = omega (arith, (policy_limits (fits (goal.at.overflow_mul-d c)
 
 pub returns-in_err-room_fits-2 : goal.returns-in_err-room_fits-2
 returns-in_err-room_fits-2 c =
-    let same : c.from_residual-in_err-room_fits-2.result ≡ Err c.in_err-room_fits-2.field-0.0 = search rules in
     let bad = sym c.room_fits-2.ensures ∙ c.in_err-room_fits-2.was in
     let room = roomy (goal.at.returns-in_err-room_fits-2 c).In_ok-room_fits in
+    let same = handed_on _ c.from_residual-in_err-room_fits-2.ensures.1 in
     rw same (cells_short (fits (goal.at.returns-in_err-room_fits-2 c).In_ok-sizes) c.args.assignment.now c.args.table.now room _ bad)
 
 pub fill_numbers-requires : goal.fill_numbers-requires

@@ -18,11 +18,11 @@ invariant_of-m c =
     let P = policy a.d a.assignment.now a.table.now in
     record { laid = (judgeable a.n a.k a.matrix.now P (fine (goal.at.invariant_of-m c).In_ok-judge_fits)).0.laid }
 
-pub first_conflict-requires : goal.first_conflict-requires
-first_conflict-requires c =
+pub invariant_of-p : goal.invariant_of-p
+invariant_of-p c =
     let a = c.args in
     let P = policy a.d a.assignment.now a.table.now in
-    (judgeable a.n a.k a.matrix.now P (fine (goal.at.first_conflict-requires c).In_ok-judge_fits)).1
+    record { within = (judgeable a.n a.k a.matrix.now P (fine (goal.at.invariant_of-p c).In_ok-judge_fits)).1 }
 
 pub returns-in_default : goal.returns-in_default
 returns-in_default c =

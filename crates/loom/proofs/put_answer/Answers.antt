@@ -24,23 +24,25 @@ shown c =
     let room = c.requires.in_bounds in
     built-refused c.requires.holds _ _ _ _ room.0 room.1 _ c.in-Err.is c.build.ensures
 
-pub overflow_mul-d : goal.overflow_mul-d
-overflow_mul-d c = omega (arith, (stands (goal.at.overflow_mul-d c).In-Ok).small.rows)
+pub overflow_mul-p : goal.overflow_mul-p
+overflow_mul-p c = omega (arith, (stands (goal.at.overflow_mul-p c).In-Ok).small.rows)
 
-pub overflow_mul-d-in-Ok : goal.overflow_mul-d-in-Ok
-overflow_mul-d-in-Ok c = omega (arith, (stands (goal.at.overflow_mul-d-in-Ok c).In-Ok).small.cells)
+pub overflow_mul-p-in-Ok : goal.overflow_mul-p-in-Ok
+overflow_mul-p-in-Ok c = omega (arith, (stands (goal.at.overflow_mul-p-in-Ok c).In-Ok).small.cells)
 
-pub slice_bounds-put_policy-end-in-Ok-2 : goal.slice_bounds-put_policy-end-in-Ok-2
-slice_bounds-put_policy-end-in-Ok-2 c = omega (arith, (stands (goal.at.slice_bounds-put_policy-end-in-Ok-2 c).In-Ok).small.cells)
+pub slice_bounds-p-end-in-Ok-2 : goal.slice_bounds-p-end-in-Ok-2
+slice_bounds-p-end-in-Ok-2 c = omega (arith, (stands (goal.at.slice_bounds-p-end-in-Ok-2 c).In-Ok).small.cells)
 
-pub slice_bounds-put_policy-end-in-Ok-3 : goal.slice_bounds-put_policy-end-in-Ok-3
-slice_bounds-put_policy-end-in-Ok-3 c = (stands (goal.at.slice_bounds-put_policy-end-in-Ok-3 c).In-Ok).size
+pub slice_bounds-p-end-in-Ok-3 : goal.slice_bounds-p-end-in-Ok-3
+slice_bounds-p-end-in-Ok-3 c = (stands (goal.at.slice_bounds-p-end-in-Ok-3 c).In-Ok).size
 
-pub put_policy-requires-clause-within : goal.put_policy-requires-clause-within
-put_policy-requires-clause-within c = let w = stands (goal.at.put_policy-requires-clause-within c).In-Ok in w.within
+pub invariant_of-p : goal.invariant_of-p
+invariant_of-p c = record { within = (stands (goal.at.invariant_of-p c).In-Ok).within }
 
-pub put_policy-requires-clause-file_has_room : goal.put_policy-requires-clause-file_has_room
-put_policy-requires-clause-file_has_room c = let w = stands (goal.at.put_policy-requires-clause-file_has_room c).In-Ok in omega (arith, w.enough)
+pub put_policy-requires : goal.put_policy-requires
+put_policy-requires c =
+    let w = stands (goal.at.put_policy-requires c).In-Ok in
+    record { file_has_room = omega (arith, w.enough) }
 
 pub put_refusal-requires : goal.put_refusal-requires
 put_refusal-requires c = let r = (shown (goal.at.put_refusal-requires c).In-Err).0 in (r.place, omega arith)

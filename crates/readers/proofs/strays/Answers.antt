@@ -1,14 +1,8 @@
--- `readers::strays` meets its contract. The invariant: `found` says whether one of the bytes so far is no cell below lim. Assumes nothing.
-use mathlib.Core.Path.{sym}
-use Rattle.model.proofs.Loops.{any_none, any_next}
+-- `readers::strays` meets its contract: the test is whether a byte is no cell below lim. Assumes nothing.
+use borrow.Author.Rules.{rules}
+use lib.Dec.{leb}
+use Rattle.layout.specs.Layout.{cell_of}
 use Rattle.readers.proofs.strays.Goals as goal
-use Rattle.readers.proofs.strays.Invariants.{stray}
 
-pub loop-x-init : goal.loop-x-init
-loop-x-init c = let a = c.args in sym (any_none (stray a.s.now a.lim))
-
-pub loop-x-preserved : goal.loop-x-preserved
-loop-x-preserved c =
-    let a = c.args in
-    let l = c.loop-x in
-    rw c.cell_of.ensures (any_next (stray a.s.now a.lim) l.x-index l.found l.invariant)
+pub returns : goal.returns
+returns c = c.some_passes.ensures (λ x. leb c.args.lim (cell_of x)) (λ x y h e. search rules)

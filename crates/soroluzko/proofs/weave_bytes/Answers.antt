@@ -1,12 +1,12 @@
 -- `soroluzko::weave_bytes` meets its contract: the room for every answer is known before anything is written, and then the answer is put down.
 -- Assumes nothing.
 use mathlib.Core.Path.{◌≡◌, sym, ◌∙◌}
-use borrow.Author.Rules.{rules}
 use lib.ListN.{length}
-use Rattle.std.specs.Prelude.{Ok, Err}
+use Rattle.std.specs.Prelude.{Ok}
 use Rattle.model.specs.declared.Fault.TheVariants.{Room}
 use Rattle.model.specs.Refusal.{checked}
 use Rattle.model.specs.Rules.{room_rules}
+use Rattle.model.proofs.Groups.{handed_on}
 use Rattle.model.proofs.Rules.{room_fine}
 use Rattle.files.proofs.Writes.{written_bad, written_fine}
 use Rattle.woven.specs.Weave.{longest}
@@ -20,9 +20,9 @@ roomy c = sym c.room_fits.ensures ∙ c.in_ok-room_fits.was
 pub returns-in_err-room_fits : goal.returns-in_err-room_fits
 returns-in_err-room_fits c =
     let a = c.args in
-    let same : c.from_residual.result ≡ Err c.in_err-room_fits.field-0.0 = search rules in
     let bad = sym c.room_fits.ensures ∙ c.in_err-room_fits.was in
     let (t, w) = woven_total a.input.now in
+    let same = handed_on _ c.from_residual.ensures.1 in
     rw same (t, w, written_bad (room_rules Room (length a.output.now) longest) t a.output.now _ bad)
 
 pub weave-requires : goal.weave-requires

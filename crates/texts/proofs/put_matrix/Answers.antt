@@ -22,7 +22,7 @@ room c =
 pub put_sizes-requires : goal.put_sizes-requires
 put_sizes-requires c =
     let l = c.requires.holds.laid in
-    (omega arith, omega (arith, l.entities), omega (arith, l.rights), omega (arith, room (goal.at.put_sizes-requires c).After-new-out))
+    (omega (arith, l.entities), omega (arith, l.rights), omega (arith, room (goal.at.put_sizes-requires c).After-new-out))
 
 pub put-requires : goal.put-requires
 put-requires c = omega (arith, room (goal.at.put-requires c).After-new-out)
@@ -31,7 +31,7 @@ pub put_records-requires : goal.put_records-requires
 put_records-requires c =
     let l = c.requires.holds.laid in
     let cells = mul_assoc c.args.n c.args.k c.args.n in
-    (omega arith, omega (arith, l.entities), omega (arith, room (goal.at.put_records-requires c).After-new-out), omega (arith, l.size, cells))
+    (omega (arith, l.entities), omega (arith, room (goal.at.put_records-requires c).After-new-out), omega (arith, l.size, cells))
 
 pub put_close-requires : goal.put_close-requires
 put_close-requires c = omega (arith, room (goal.at.put_close-requires c).After-new-out)
