@@ -1,16 +1,18 @@
 -- What a list of rules finds, group by group: where the first group applies it decides, and else the later ones do.
 -- Assumes nothing.
 use mathlib.Core.Path.{◌≡◌, refl, sym, ap, ◌∙◌, subst}
-use mathlib.Core.Bool.{Bool, true, false, cond}
+use mathlib.Core.Bool.{Bool, true, false, cond, ◌||◌}
 use mathlib.Core.List.{List, [], ◌∷◌, ◌++◌}
 use Prim.Native.Nat.{ℕ, ◌-◌}
+use lib.Dec.{T, eqb, ltb}
 use lib.ListN.{length, get_or, drop}
 use native.Mathlib.Omega.{arith}
 use borrow.Author.Rules.{rules}
 use borrow.Author.Tests.{lt-ltb, le-ltb, le-leb, lt-leb, eq-eqb, ne_eqb}
 use Rattle.model.specs.declared.Fault.{Fault}
 use Rattle.model.specs.declared.Fault.TheVariants.{Limit, MatrixLength, MatrixCell, Unlogged, AssignmentLength, DomainNumber}
-use Rattle.model.specs.declared.Fault.TheVariants.{TableLength, TableCell, OutOfRange, AssignmentRoom, Room, FileForm}
+use Rattle.model.specs.declared.Fault.TheVariants.{TableLength, TableCell, OutOfRange, AssignmentRoom, Room, FileForm, Other}
+use Rattle.model.specs.declared.OtherNumber.{OtherNumber}
 use Rattle.model.specs.declared.Refusal.{Refusal}
 use Rattle.std.specs.Prelude.{Result, Ok, Err, IsErrAnd}
 use Rattle.model.specs.Refusal.{Rule, Checked, number_of, checked, values, refused, told_refusal, tell, told, single, flag, held}
@@ -24,12 +26,33 @@ fine_not_bad c r e f = let z : ◌≡◌ {A = ℕ} 0 1 = cc in omega arith
 pub values_refused : (vs : List ℕ) (number place : ℕ) → values vs ≡ refused number place → ⊥
 values_refused vs number place e = let z : ◌≡◌ {A = ℕ} 0 1 = cc in omega arith
 
--- a number is that of one reason, so that what is told says which refusal it was
+-- a number is that of one reason, so that what is told says which refusal it was: a listed one, or the number itself
 abbrev faults : List Fault
 faults = Limit ∷ MatrixLength ∷ MatrixCell ∷ Unlogged ∷ AssignmentLength ∷ DomainNumber ∷ TableLength ∷ TableCell ∷ OutOfRange
     ∷ AssignmentRoom ∷ Room ∷ FileForm ∷ []
 
-fault_back : (f : Fault) → get_or faults (number_of f - 1) Limit ≡ f
+abbrev unlisted : ℕ → Bool
+unlisted n = eqb n 0 || ltb 12 n
+
+-- b tells whether the number is unlisted
+abbrev read_back : (n : ℕ) (b : Bool) → (T b → T (unlisted n)) → Fault
+read_back n true f = Other (record { number = n; unlisted = f tt })
+read_back n false f = get_or faults (n - 1) Limit
+
+abbrev fault_of : ℕ → Fault
+fault_of n = read_back n (unlisted n) (λ t. t)
+
+-- that a test passes is shown in one way
+shown_once : (b : Bool) (s t : T b) → s ≡ t
+shown_once true s t = refl
+shown_once false s t = absurd s
+
+other_back : (x : OtherNumber) (b : Bool) (f : T b → T (unlisted x.number)) → T b → read_back x.number b f ≡ Other x
+other_back x true f t =
+    ap (λ (s : T (unlisted x.number)). Other (record { number = x.number; unlisted = s })) (shown_once (unlisted x.number) (f tt) x.unlisted)
+other_back x false f t = absurd t
+
+fault_back : (f : Fault) → fault_of (number_of f) ≡ f
 fault_back Limit = refl
 fault_back MatrixLength = refl
 fault_back MatrixCell = refl
@@ -42,6 +65,7 @@ fault_back OutOfRange = refl
 fault_back AssignmentRoom = refl
 fault_back Room = refl
 fault_back FileForm = refl
+fault_back (Other x) = other_back x (unlisted x.number) (λ t. t) x.unlisted
 
 same_refusal : (r s : Refusal) → r.fault ≡ s.fault → r.place ≡ s.place → r ≡ s
 same_refusal r s f p = rw (f, p) refl
@@ -50,7 +74,7 @@ pub refusal_told : (r s : Refusal) → told_refusal r ≡ told_refusal s → r �
 refusal_told r s e =
     let n : number_of r.fault ≡ number_of s.fault = cc in
     let p : r.place ≡ s.place = cc in
-    let f : r.fault ≡ s.fault = sym (fault_back r.fault) ∙ ap (λ x. get_or faults (x - 1) Limit) n ∙ fault_back s.fault in
+    let f : r.fault ≡ s.fault = sym (fault_back r.fault) ∙ ap fault_of n ∙ fault_back s.fault in
     same_refusal r s f p
 
 -- one rule in front

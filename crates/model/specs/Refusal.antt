@@ -2,7 +2,7 @@
 use Rattle.std.specs.Prelude.{◌≡◌, Bool, cond, List, [], ◌∷◌, ◌++◌, ℕ, length, drop, Result, Ok, Err}
 use Rattle.model.specs.declared.Fault.{Fault}
 use Rattle.model.specs.declared.Fault.TheVariants.{Limit, MatrixLength, MatrixCell, Unlogged, AssignmentLength, DomainNumber}
-use Rattle.model.specs.declared.Fault.TheVariants.{TableLength, TableCell, OutOfRange, AssignmentRoom, Room, FileForm}
+use Rattle.model.specs.declared.Fault.TheVariants.{TableLength, TableCell, OutOfRange, AssignmentRoom, Room, FileForm, Other}
 use Rattle.model.specs.declared.Refusal.{Refusal}
 
 -- the number of each reason
@@ -19,6 +19,7 @@ number_of OutOfRange = 9
 number_of AssignmentRoom = 10
 number_of Room = 11
 number_of FileForm = 12
+number_of (Other x) = x.number
 
 -- a refusal that names no cell
 unfoldable pub refusal : Fault → ℕ → Refusal
