@@ -28,7 +28,7 @@ use Rattle.word.proofs.Word.{word_kept, word_low, told_held, RefusalCarried}
 use Rattle.word.proofs.Carried.{carried, sizes_carried, matrix_carried, assignment_carried, table_carried, room_carried}
 
 malformed_held : (ws : List ℕ) (p : ℕ) → p ≤ 33230 → Held ws (told_refusal (refusal FileForm p))
-malformed_held ws p h = carried FileForm p (omega arith)
+malformed_held ws p h = carried FileForm p (omega arith) (omega arith) (omega arith)
 
 -- ---- reading
 
@@ -36,7 +36,7 @@ pub matrix_read_held : (s x x' : List ℕ) (t : Told) → MatrixRead s x t x' �
 matrix_read_held s x x' t (MatrixRead.formed n k m f e _) =
     let l = f.matrix.laid in
     subst (Held (8 ∷ 8 ∷ [])) (sym e) (told_held (8 ∷ 8 ∷ []) (room_rules Room (length x) (length m)) (n ∷ k ∷ [])
-    (room_carried Room (length x) (length m) (omega (arith, l.size, (small l.entities l.rights l.entities).cells)))
+    (room_carried Room (length x) (length m) (omega arith) (omega arith) (omega (arith, l.size, (small l.entities l.rights l.entities).cells)))
     (λ _. more (omega (arith, l.entities)) (more (omega (arith, l.rights)) none)))
 matrix_read_held s x x' t (MatrixRead.malformed p m e _) =
     subst (Held (8 ∷ 8 ∷ [])) (sym e) (malformed_held (8 ∷ 8 ∷ []) p
@@ -48,8 +48,8 @@ policy_read_held s x y x' y' t (PolicyRead.formed n k P f e _ _) =
     let cells = room_rules Room (length y) (length P.table) in
     subst (Held (8 ∷ 8 ∷ 8 ∷ [])) (sym e) (told_held (8 ∷ 8 ∷ 8 ∷ []) (names ++ cells) (n ∷ k ∷ P.domains ∷ [])
     (gives_group RefusalCarried names cells
-    (room_carried AssignmentRoom (length x) (length P.assignment) (omega (arith, f.within.valid.entities, f.within.entities)))
-    (λ _. room_carried Room (length y) (length P.table)
+    (room_carried AssignmentRoom (length x) (length P.assignment) (omega arith) (omega arith) (omega (arith, f.within.valid.entities, f.within.entities)))
+    (λ _. room_carried Room (length y) (length P.table) (omega arith) (omega arith)
     (omega (arith, f.within.valid.size, (small f.within.few f.within.rights f.within.few).cells))))
     (λ _. more (omega (arith, f.within.entities)) (more (omega (arith, f.within.rights)) (more (omega (arith, f.within.few)) none))))
 policy_read_held s x y x' y' t (PolicyRead.malformed p m e _ _) =
@@ -73,7 +73,7 @@ matrix_written_held n k m x x' t w =
     (gives_group RefusalCarried (size_rules n k 0) rest (sizes_carried n k 0) (λ e.
     let s = sizes_fine n k 0 e in
     gives_group RefusalCarried (matrix_rules n k m) (room_rules Room (length x) size) (matrix_carried n k 0 s m)
-    (λ _. room_carried Room (length x) size (omega (arith, matrix_room_lem n k m s)))))
+    (λ _. room_carried Room (length x) size (omega arith) (omega arith) (omega (arith, matrix_room_lem n k m s)))))
     (λ e. more (omega (arith, matrix_room_lem n k m (sizes_fine n k 0 (groups_fine (size_rules n k 0) rest e).0))) none))
 
 pub policy_written_held : (n k : ℕ) (P : Policy) (x x' : List ℕ) (t : Told) → Written (policy_write_rules n k P (length x)) (policy_text n k P) x t x'
@@ -89,7 +89,7 @@ policy_written_held n k P x x' t w =
     let s = sizes_fine n k d e in
     gives_group RefusalCarried (assignment_rules n d P.assignment) cells (assignment_carried n k d s P.assignment) (λ _.
     gives_group RefusalCarried (table_rules k d P.table) (room_rules Room (length x) size) (table_carried n k d s P.table)
-    (λ _. room_carried Room (length x) size (policy_room_lem n k P s)))))
+    (λ _. room_carried Room (length x) size (omega arith) (omega arith) (policy_room_lem n k P s)))))
     (λ e. more (omega (arith, policy_room_lem n k P (sizes_fine n k d (groups_fine (size_rules n k d) rest e).0))) none))
 
 -- ---- so the words lose nothing

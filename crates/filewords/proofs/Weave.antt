@@ -20,7 +20,7 @@ use Rattle.word.proofs.Carried.{room_carried}
 pub woven_held : (s t x x' : List ℕ) (a : Told) → Woven s t → Written (room_rules Room (length x) longest) t x a x' → Held (24 ∷ []) a
 woven_held s t x x' a w z =
     subst (Held (24 ∷ [])) (sym z.told) (told_held (24 ∷ []) (room_rules Room (length x) longest) (length t ∷ [])
-    (room_carried Room (length x) longest (omega arith)) (λ _. more (omega (arith, woven_short w)) none))
+    (room_carried Room (length x) longest (omega arith) (omega arith) (omega arith)) (λ _. more (omega (arith, woven_short w)) none))
 
 pub weave_kept : WeaveKept
 weave_kept s t x x' a w z = let h = woven_held s t x x' a w z in (word_kept (24 ∷ []) a h, word_low (24 ∷ []) (omega arith) a h)

@@ -3,7 +3,7 @@
 #![tactic(auto)]
 
 ghost use Rattle.std.specs.Prelude.{◌≡◌, ◌≤◌, ◌<◌, length};
-ghost use Rattle.model.specs.Refusal.{over};
+ghost use Rattle.model.specs.Refusal.{number_of, over};
 ghost use Rattle.woven.specs.Weave.{refusal_text};
 
 use model::Refusal;
@@ -11,7 +11,7 @@ use writers::Writer;
 
 // The line of a refusal, and its length.
 pub fn put_refusal(r: Refusal, output: &mut [u8]) -> usize
-    requires { (r.place < 100000) × (10 ≤ length output.old) }
+    requires { (number_of r.fault < 100) × (r.place < 100000) × (10 ≤ length output.old) }
     ensures value { result ≡ length (refusal_text r) }
     ensures output_after { output.new ≡ over (refusal_text r) output.old }
 {

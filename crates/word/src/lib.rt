@@ -3,7 +3,7 @@
 #![tactic(auto)]
 
 ghost use Rattle.std.specs.Prelude.{◌≡◌, ◌<◌, ◌^◌, ℕ, [], ◌∷◌, MatchResult};
-ghost use Rattle.model.specs.Refusal.{told_refusal, told, single};
+ghost use Rattle.model.specs.Refusal.{number_of, told_refusal, told, single};
 ghost use Rattle.word.specs.Word.{place_bits, word};
 ghost use Rattle.word.specs.Held.{Held};
 
@@ -11,7 +11,7 @@ use model::Refusal;
 
 #[tactic(auto, unfolding(crate::specs::Word::word))]
 pub fn refusal_word(r: Refusal) -> u64
-    requires { r.place < 2 ^ place_bits }
+    requires { (number_of r.fault < 256) × (r.place < 2 ^ place_bits) }
     ensures { result ≡ word [] (told_refusal r) }
 {
     r.fault.number() as u64 + 256 * r.place as u64
@@ -19,7 +19,7 @@ pub fn refusal_word(r: Refusal) -> u64
 
 // The word of an answer, by the word of its value.
 pub fn answer_word<T, F: FnOnce(T) -> u64>(answer: Result<T, Refusal>, value: F) -> u64
-    requires { MatchResult answer (λ x. F.pre value x) (λ r. r.place < 2 ^ place_bits) }
+    requires { MatchResult answer (λ x. F.pre value x) (λ r. (number_of r.fault < 256) × (r.place < 2 ^ place_bits)) }
     ensures { MatchResult answer (λ x. F.post value x result) (λ r. result ≡ word [] (told_refusal r)) }
 {
     match answer {

@@ -24,13 +24,13 @@ module _ (n k u a v : ℕ) (P : Policy) where
   look_carried : Sized n k P.domains → (u < n) × (a < k) × (v < n) → Gives RefusalCarried (look_rules k u a v P)
   unfolding look_rules
   look_carried s r = (
-    λ _. carried DomainNumber u (omega (arith, r.0)),
+    λ _. carried DomainNumber u (omega arith) (omega arith) (omega (arith, r.0)),
     λ p. (
-      λ _. carried DomainNumber v (omega (arith, r.2)),
+      λ _. carried DomainNumber v (omega arith) (omega arith) (omega (arith, r.2)),
       λ q. (
         λ _.
             let w = steps s.domains s.rights s.domains (leb-false d (domain_of P u) p) r.1 (leb-false d (domain_of P v) q) in
-            cell_carried TableCell k d (cell_at k d (domain_of P u) a (domain_of P v)) (omega (arith, w.place)),
+            cell_carried TableCell k d (cell_at k d (domain_of P u) a (domain_of P v)) (omega arith) (omega arith) (omega (arith, w.place)),
         λ _. tt,
       ),
     ),
@@ -42,9 +42,9 @@ module _ (n k u a v : ℕ) (P : Policy) where
   pub ask_carried : Gives RefusalCarried (ask_rules n k u a v P)
   unfolding ask_rules
   ask_carried = gives_group RefusalCarried (size_rules n k P.domains) _ (sizes_carried n k P.domains) (λ e. (
-    λ _. carried AssignmentLength 0 (omega arith),
+    λ _. carried AssignmentLength 0 (omega arith) (omega arith) (omega arith),
     λ _. (
-      λ _. carried TableLength 0 (omega arith),
+      λ _. carried TableLength 0 (omega arith) (omega arith) (omega arith),
       λ _. gives_group RefusalCarried (request_rules n k u a v) (look_rules k u a v P) (request_carried n k u a v)
           (λ f. look_carried (sizes_fine n k P.domains e) (request_fine n k u a v f)),
     ),
@@ -60,8 +60,8 @@ build_carried n k m x y = gives_group RefusalCarried (whole_rules n k m) _ (whol
     let s = (whole_fine n k m e).laid in
     let d : (built_from n k m).domains ≤ 64 = omega (arith, built_few n k (cell k n m), s.entities) in
     gives_group RefusalCarried (room_rules AssignmentRoom x n) (room_rules Room y (table_size n k m))
-    (room_carried AssignmentRoom x n (omega (arith, s.entities)))
-    (λ _. room_carried Room y (table_size n k m) (omega (arith, (small d s.rights d).cells))))
+    (room_carried AssignmentRoom x n (omega arith) (omega arith) (omega (arith, s.entities)))
+    (λ _. room_carried Room y (table_size n k m) (omega arith) (omega arith) (omega (arith, (small d s.rights d).cells))))
 
 pub judge_carried : (n k : ℕ) (m : List ℕ) (P : Policy) → Gives RefusalCarried (judge_rules n k m P)
 unfolding judge_rules

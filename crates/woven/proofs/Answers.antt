@@ -9,7 +9,7 @@ use lib.Dec.{eqb}
 use lib.ListN.{length, take}
 use Rattle.model.specs.declared.Fault.TheVariants.{Unlogged, AssignmentRoom, Room, FileForm}
 use Rattle.model.specs.declared.Refusal.{Refusal}
-use Rattle.model.specs.Refusal.{Checked, Rule, checked, refusal, cell_refusal, told_refusal, over}
+use Rattle.model.specs.Refusal.{Checked, Rule, number_of, checked, refusal, cell_refusal, told_refusal, over}
 use Rattle.std.specs.Prelude.{Ok, Err}
 use Rattle.model.specs.Matrix.{cell, Holds}
 use Rattle.model.specs.Policy.{written, Within}
@@ -36,8 +36,9 @@ formed-short s (n, k, m, f) = matrix_short f
 pub put_same : {size : ℕ} {t t' x' : List ℕ} (x : List ℕ) → t ≡ t' → (size ≡ length t) × (x' ≡ over t x) → (size ≡ length t') × (x' ≡ over t' x)
 put_same {size} {x' = x'} x e = subst (λ (z : List ℕ). (size ≡ length z) × (x' ≡ over z x)) e
 
--- a refusal whose place has five digits
+-- a refusal whose number has two digits and whose place has five
 pub record Shown (r : Refusal) : Type 0 where
+  pub number : number_of r.fault < 100
   pub place : r.place < 100000
 
 module _ {n k : ℕ} {m : List ℕ} (f : Holds n k 3 m) where
@@ -103,7 +104,7 @@ module _ {n k : ℕ} {m : List ℕ} (f : Holds n k 3 m) where
     four-shown =
         let (i, h, e) = four_at in
         let l = f.laid in
-        subst Shown (sym e) (record { place = omega (arith, h, l.size, (small l.entities l.rights l.entities).cells) })
+        subst Shown (sym e) (record { number = omega arith; place = omega (arith, h, l.size, (small l.entities l.rights l.entities).cells) })
 
 -- ---- what the build answered, over buffers with room for every policy, and left in them
 
@@ -157,7 +158,7 @@ module _ (s x x' : List ℕ) where
     where
       twelve : (p : ℕ) → Malformed MatrixFormed s p → r ≡ refusal FileForm p → Shown r × Woven s (refusal_text r)
       twelve p m e = (
-        subst Shown (sym e) (record { place = omega (arith, place_short MatrixFormed 33097 formed-short m.place) }),
+        subst Shown (sym e) (record { number = omega arith; place = omega (arith, place_short MatrixFormed 33097 formed-short m.place) }),
         Woven.malformed p m (ap refusal_text e),
       )
 

@@ -15,4 +15,4 @@ answer_word-requires c = asked c.args.read
     let b = fit_first (fit_rest h) in
     let d = fit_first (fit_rest (fit_rest h)) in
     search rules)
-    (λ r e. let h : Held (8 ∷ 8 ∷ 8 ∷ []) (read_policy_told (Err r)) = rw e at c.requires in h.bits)
+    (λ r e. let h : Held (8 ∷ 8 ∷ 8 ∷ []) (read_policy_told (Err r)) = rw e at c.requires in (h.byte, h.bits))

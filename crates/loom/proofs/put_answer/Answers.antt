@@ -45,7 +45,7 @@ put_policy-requires c =
     record { file_has_room = omega (arith, w.enough) }
 
 pub put_refusal-requires : goal.put_refusal-requires
-put_refusal-requires c = let r = (shown (goal.at.put_refusal-requires c).In-Err).0 in (r.place, omega arith)
+put_refusal-requires c = let r = (shown (goal.at.put_refusal-requires c).In-Err).0 in (r.number, r.place, omega arith)
 
 pub returns-in-Ok-clause-value : goal.returns-in-Ok-clause-value
 returns-in-Ok-clause-value c =

@@ -24,7 +24,7 @@ shown : (c : In-Err)
 shown c = read-refused _ _ _ _ c.in-Err.is c.requires.0 c.read_matrix.ensures
 
 pub put_refusal-requires : goal.put_refusal-requires
-put_refusal-requires c = let r = (shown (goal.at.put_refusal-requires c).In-Err).0 in (r.place, omega arith)
+put_refusal-requires c = let r = (shown (goal.at.put_refusal-requires c).In-Err).0 in (r.number, r.place, omega arith)
 
 pub returns-in-Ok : goal.returns-in-Ok
 returns-in-Ok c =

@@ -30,5 +30,5 @@ returns-clause-output_after c =
     let all = text (goal.at.returns-clause-output_after c).After-put-2 in
     let same = all.same_buffer in
     let output : c.put-2.new.self.buffer.now ≡ over (refusal_text a.r) a.output.now =
-    whole _ a.output.now new.untouched new.at_start c.requires.1 all in
+    whole _ a.output.now new.untouched new.at_start c.requires.2 all in
     grind (arith, same, output)
