@@ -55,6 +55,7 @@ pub fn read_policy(file: &[u8]) -> Result<PolicySizes, usize>
 fn read_head(reader: &mut Reader) -> Result<PolicySizes, usize>
     ensures file { reader.new.file.now ≡ reader.old.file.now }
     ensures read { Reads reader.old reader.new 8 policy_sizes (λ z F. F z.n z.k z.d) result }
+    ensures stands { IfErr result (λ p. reader.new.at ≡ p) }
     ensures entities { IfOk result (λ z. (z.n ≡ number_at reader.old.file.now (reader.old.at + 2)) × (z.n ≤ 64)) }
     ensures rights { IfOk result (λ z. (z.k ≡ digit_at reader.old.file.now (reader.old.at + 4)) × (z.k ≤ 8)) }
     ensures domains { IfOk result (λ z. (z.d ≡ number_at reader.old.file.now (reader.old.at + 5)) × (z.d ≤ 64)) }
@@ -76,6 +77,7 @@ fn least_domains(n: usize) -> usize
 fn read_assigned(reader: &mut Reader, d: usize, n: usize) -> Result<(), usize>
     ensures file { reader.new.file.now ≡ reader.old.file.now }
     ensures read { Reads reader.old reader.new (n * 2 + 3) (assigned d n) (λ _ F. F) result }
+    ensures stands { IfErr result (λ p. reader.new.at ≡ p) }
 {
     reader.text(b"AS")?;
     reader.numbers(d, n)?;

@@ -3,7 +3,7 @@
 #![tactic(auto)]
 
 ghost use Rattle.std.specs.Prelude.{◌≡◌, ◌+◌, ◌*◌, ◌≤◌, ◌<◌, ℕ, leb, length, get_or, slice_index, EachIndex};
-ghost use Rattle.std.specs.Prelude.{IfOk, MatchOption, MatchResult};
+ghost use Rattle.std.specs.Prelude.{IfErr, IfOk, MatchOption, MatchResult};
 ghost use Rattle.model.specs.Below.{any};
 ghost use Rattle.layout.specs.Layout.{digit_of, cell_of};
 
@@ -95,6 +95,7 @@ impl<'a> Reader<'a> {
     pub fn text(&mut self, mark: &[u8]) -> Result<(), usize>
         ensures file { self.new.file.now ≡ self.old.file.now }
         ensures read { Reads self.old self.new (length mark.now) (text mark.now) (λ _ F. F) result }
+        ensures stands { IfErr result (λ p. self.new.at ≡ p) }
     {
         for x in mark {
             if self.peek()? != *x {
@@ -109,6 +110,7 @@ impl<'a> Reader<'a> {
     pub fn digit(&mut self, lo: usize, hi: usize) -> Result<usize, usize>
         ensures file { self.new.file.now ≡ self.old.file.now }
         ensures read { Reads self.old self.new 1 (digit lo hi) (λ x F. F x) result }
+        ensures stands { IfErr result (λ p. self.new.at ≡ p) }
         ensures value { IfOk result (λ x. (x ≡ digit_at self.old.file.now self.old.at) × (lo ≤ x) × (x < hi)) }
     {
         let x = self.peek_digit()?;
@@ -123,6 +125,7 @@ impl<'a> Reader<'a> {
     pub fn number(&mut self, lo: usize, hi: usize) -> Result<usize, usize>
         ensures file { self.new.file.now ≡ self.old.file.now }
         ensures read { Reads self.old self.new 2 (number lo hi) (λ x F. F x) result }
+        ensures stands { IfErr result (λ p. self.new.at ≡ p) }
         ensures value { IfOk result (λ x. (x ≡ number_at self.old.file.now self.old.at) × (lo ≤ x) × (x < hi)) }
     {
         let ten = self.peek_digit()? * 10;
@@ -142,6 +145,7 @@ impl<'a> Reader<'a> {
     pub fn numbers(&mut self, hi: usize, n: usize) -> Result<(), usize>
         ensures file { self.new.file.now ≡ self.old.file.now }
         ensures read { Reads self.old self.new (n * 2) (numbers hi n) (λ _ F. F) result }
+        ensures stands { IfErr result (λ p. self.new.at ≡ p) }
     {
         for _ in 0..n {
             self.number(0, hi)?;
@@ -153,16 +157,18 @@ impl<'a> Reader<'a> {
     pub fn cells(&mut self, lim: u8, w: usize) -> Result<(), usize>
         ensures file { self.new.file.now ≡ self.old.file.now }
         ensures read { Reads self.old self.new w (cells lim w) (λ _ F. F) result }
+        ensures stands { IfErr result (λ p. self.new.at ≡ p) }
     {
         let end = self.at + w.min(self.file.len() - self.at);
         let row = &self.file[self.at..end];
         if let Some(i) = stray(row, lim) {
-            return Err(self.at + i);
+            self.at += i;
+            return Err(self.at);
         }
+        self.at = end;
         if row.len() < w {
             return Err(end);
         }
-        self.at = end;
         Ok(())
     }
 }

@@ -19,6 +19,7 @@ pub fn read_record(
     requires { u < 100 }
     ensures file { reader.new.file.now ≡ reader.old.file.now }
     ensures read { Reads reader.old reader.new (w + 5) (record_of mark.now lim w u) (λ _ F. F) result }
+    ensures stands { IfErr result (λ p. reader.new.at ≡ p) }
 {
     reader.text(mark)?;
     reader.number(u, u + 1)?;
@@ -37,6 +38,7 @@ pub fn read_records(
     requires { c ≤ 64 }
     ensures file { reader.new.file.now ≡ reader.old.file.now }
     ensures read { Reads reader.old reader.new (c * (w + 5)) (records mark.now lim w c) (λ _ F. F) result }
+    ensures stands { IfErr result (λ p. reader.new.at ≡ p) }
 {
     for u in 0..c {
         read_record(reader, mark, lim, w, u)?;
@@ -48,6 +50,7 @@ pub fn read_records(
 pub fn read_sizes(reader: &mut Reader, mark: &[u8; 2]) -> Result<(usize, usize), usize>
     ensures file { reader.new.file.now ≡ reader.old.file.now }
     ensures read { Reads reader.old reader.new 5 (sizes mark.now) (λ z F. F z.0 z.1) result }
+    ensures stands { IfErr result (λ p. reader.new.at ≡ p) }
     ensures entities { IfOk result (λ z. (z.0 ≡ number_at reader.old.file.now (reader.old.at + 2)) × (z.0 ≤ 64)) }
     ensures rights { IfOk result (λ z. (z.1 ≡ digit_at reader.old.file.now (reader.old.at + 4)) × (0 < z.1) × (z.1 ≤ 8)) }
 {
@@ -61,6 +64,9 @@ pub fn read_sizes(reader: &mut Reader, mark: &[u8; 2]) -> Result<(usize, usize),
 pub fn read_close(reader: &mut Reader) -> Result<(), usize>
     ensures place { stopped (length reader.old.file.now) result ≡ ahead reader.old close }
     ensures fault { IfErr result (λ p. p ≤ length reader.old.file.now) }
+    ensures file { reader.new.file.now ≡ reader.old.file.now }
+    ensures stands { IfErr result (λ p. reader.new.at ≡ p) }
+    ensures ended { IfOk result (λ _. (reader.new.at ≡ reader.old.at + 3) × (reader.new.at ≡ length reader.old.file.now)) }
 {
     reader.text(b"ZZ")?;
     reader.text(b"\n")?;
