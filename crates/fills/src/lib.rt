@@ -27,13 +27,21 @@ pub fn number_at(s: &[u8], at: usize) -> usize
 }
 
 // The values of a row's cells.
-fn fill_cells(row: &[u8], out: &mut [u8])
+fn fill_row(row: &[u8], out: &mut [u8])
     requires { length out.old ≡ length row.now }
     ensures { out.new ≡ tab (length row.now) (λ i. cell_of (get_or row.now i 0)) }
 {
     for (i, x) in row.iter().enumerate() {
         out[i] = readers::cell_of(*x);
     }
+}
+
+// The values of w cells from `at` on, to `out` from `to` on.
+pub fn fill_cells(s: &[u8], at: usize, w: usize, out: &mut [u8], to: usize)
+    requires { (at + w ≤ length s.now) × (to + w ≤ length out.old) }
+    ensures { out.new ≡ sets out.old to (tab w (λ i. cell_of (get_or s.now (at + i) 0))) }
+{
+    fill_row(&s[at..at + w], &mut out[to..to + w]);
 }
 
 // The values of the cells of c records.
@@ -45,7 +53,7 @@ pub fn fill_records(s: &[u8], at: usize, w: usize, c: usize, out: &mut [u8])
     for u in 0..c {
         let from = at + u * (w + 5) + 4;
         let to = u * w;
-        fill_cells(&s[from..from + w], &mut out[to..to + w]);
+        fill_cells(s, from, w, out, to);
     }
 }
 

@@ -1,14 +1,15 @@
--- `fills::fill_cells` meets its contract: a turn writes one value. Assumes nothing.
+-- `fills::fill_cells` meets its contract: the row is a part of the file, and goes to a part of the buffer. Assumes nothing.
+use mathlib.Core.Path.{ap, ◌∙◌}
 use native.Mathlib.Omega.{arith}
-use Rattle.model.proofs.Loops.{filled_none, filled_next}
+use lib.ListN.{length}
+use lib.Seq.{sets}
+use Rattle.model.proofs.Below.{length_tab}
+use Rattle.fills.proofs.Rows.{part_cells, part_sets}
 use Rattle.fills.proofs.fill_cells.Goals as goal
-use Rattle.fills.proofs.fill_cells.Invariants.{cell}
 
-pub loop-i-init : goal.loop-i-init
-loop-i-init c = filled_none (cell c.args.row.now) c.args.out.now
-
-pub loop-i-preserved : goal.loop-i-preserved
-loop-i-preserved c =
+pub returns : goal.returns
+returns c =
     let a = c.args in
-    let l = c.loop-i in
-    rw (l.invariant, c.cell_of.ensures) (filled_next l.i (cell a.row.now) a.out.now (omega arith))
+    let cells = c.fill_row.ensures ∙ part_cells a.s.now a.at a.w c.requires.0 in
+    let size = ap length cells ∙ length_tab a.w _ in
+    part_sets a.out.now c.fill_row.new.out a.to a.w size c.requires.1 ∙ ap (sets a.out.now a.to) cells
