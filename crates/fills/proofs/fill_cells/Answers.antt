@@ -1,6 +1,5 @@
 -- `fills::fill_cells` meets its contract: the row is a part of the file, and goes to a part of the buffer. Assumes nothing.
 use mathlib.Core.Path.{ap, ◌∙◌}
-use native.Mathlib.Omega.{arith}
 use lib.ListN.{length}
 use lib.Seq.{sets}
 use Rattle.model.proofs.Below.{length_tab}

@@ -1,9 +1,9 @@
 -- `fills::fill_records` meets its contract: a turn writes a row. Assumes nothing.
-use Prim.Native.Nat.{◌+◌, ◌*◌}
+use Prim.Native.Nat.{◌*◌}
 use native.Mathlib.Omega.{arith}
 use Rattle.model.proofs.Below.{length_tab}
 use Rattle.layout.specs.Layout.{row_at}
-use Rattle.layout.proofs.Puts.{piece_ends, each_start, each_turn}
+use Rattle.layout.proofs.Puts.{each_start, each_turn}
 use Rattle.fills.proofs.fill_records.Goals as goal
 
 pub loop-u-init : goal.loop-u-init
