@@ -18,7 +18,7 @@ abbrev feed : Layout → Layout
 feed F = text (10 ∷ []) F
 
 -- a reader at the file's first byte has the whole file before it
-from_start : (r : Reader) {s : List ℕ} (A : Layout) → r.file.now ≡ s → r.at ≡ 0 → reach A s ≡ ahead r A
+pub from_start : (r : Reader) {s : List ℕ} (A : Layout) → r.file.now ≡ s → r.at ≡ 0 → reach A s ≡ ahead r A
 from_start r A e z = rw (e, z) (omega arith)
 
 -- ---- the matrix file

@@ -82,7 +82,15 @@ module _ (A : ℕ → Layout → Layout) {r q : Reader} {w u : ℕ} (g : Whole r
     stops = times_off A _ _ _ _ u g.goes c _ f.stops l;
   }
 
--- ---- pieces one behind the other: what faults behind others, at q, is a fault of the whole piece
+-- ---- pieces one behind the other: nothing is read, and what comes to its end goes on from there
+
+pub stay : {K : Type 0} (r : Reader) (A : K → Layout) → Whole r r 0 A A
+stay r A = record { stands = omega arith; goes = λ k. refl }
+
+pub on : {K : Type 0} {r q t : Reader} {v w : ℕ} {A B C : K → Layout} → Whole r q v A B → Whole q t w B C → Whole r t (v + w) A C
+on g h = record { stands = omega (arith, g.stands, h.stands); goes = λ k. g.goes k ∙ h.goes k }
+
+-- ---- the same, a fault: what faults behind others, at q, is a fault of the whole piece
 
 pub behind : {K J : Type 0} {r q : Reader} {v w p : ℕ} {A : K → Layout} {B : J → Layout} (f : K → J) → q.file.now ≡ r.file.now → Misfit q v p B
     → q.at + v ≤ r.at + w → ((k : K) → ahead r (A k) ≡ ahead q (B (f k))) → Misfit r w p A
