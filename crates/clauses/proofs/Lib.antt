@@ -1,3 +1,4 @@
 pub mod Ranges
 pub mod Exits
 pub mod Clauses
+pub mod Kept

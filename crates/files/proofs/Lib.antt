@@ -1,3 +1,4 @@
 pub mod Writes
 pub mod Fills
 pub mod Told
+pub mod Kept

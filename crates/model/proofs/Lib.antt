@@ -14,3 +14,4 @@ pub mod Fillings
 pub mod Clashes
 pub mod Groups
 pub mod Rules
+pub mod Kept

@@ -1,2 +1,3 @@
 pub mod Word
 pub mod Carried
+pub mod Kept
