@@ -38,7 +38,7 @@ module _ (n k : ℕ) (m s t : List ℕ) where
   unfolding build_rules early last
   both = sym (ap checked (append_assoc (whole_rules n k m) (room_rules AssignmentRoom (length s) n) (room_rules Room (length t) (table_size n k m))))
 
-  early_bad : (r : Refusal) → checked early ≡ Err r → Builds n k m s t (Err r) s t
+  pub early_bad : (r : Refusal) → checked (whole_rules n k m ++ room_rules AssignmentRoom (length s) n) ≡ Err r → Builds n k m s t (Err r) s t
   unfolding early build_told
   early_bad r e =
       let c = checked (build_rules n k m (length s) (length t)) in

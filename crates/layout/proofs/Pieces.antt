@@ -31,6 +31,15 @@ digit_char x h = go (leb 48 x) (ltb x 58) refl refl h
     go true false e f l = absurd (omega arith)
     go false b e f l = absurd (omega arith)
 
+pub digit_small : (x : ℕ) → digit_of x ≤ 10
+unfolding digit_of
+digit_small x = go (leb 48 x) (ltb x 58) refl
+  where
+    go : (a b : Bool) → ltb x 58 ≡ b → cond (a && b) (x - 48) 10 ≤ 10
+    go true true e = omega (arith, ltb-true x 58 e)
+    go true false e = omega arith
+    go false b e = omega arith
+
 pub cell_value : (x : ℕ) → x < 3 → cell_of (cell_char x) ≡ x
 unfolding cell_of
 cell_value zero h = refl
