@@ -1,4 +1,5 @@
-// The pieces of a file, read. A piece that is there is answered by its value, if it has one; else by the place of the first byte that does not fit.
+// The pieces of a file, read. A piece that is there is answered by its value, if it has one; else by the place of the first byte that does not fit,
+// and the reader then stands there.
 
 #![tactic(auto)]
 
