@@ -60,6 +60,10 @@ reached p s g e =
     let r = any_of (length s) (at p s) (rw g tt) in
     omega (arith, (first_of (length s) (at p s) r.0 r.1 r.2).below)
 
+-- and where none does, none is
+pub unreached : (p : ℕ → Bool) (s : List ℕ) → any (length s) (at p s) ≡ false → IsLowest p s None
+unreached p s g = none_in p s (λ j m n t. subst T g (any_at (length s) (at p s) j n t))
+
 -- ---- a block: the part from i up to e
 
 module _ (p : ℕ → Bool) (s : List ℕ) (i e : ℕ) (h : i ≤ e) (l : e ≤ length s) (none : NoneBefore p s i) where
@@ -76,6 +80,11 @@ module _ (p : ℕ → Bool) (s : List ℕ) (i e : ℕ) (h : i ≤ e) (l : e ≤ 
   pub block_none : any (length (part s i e)) (at p (part s i e)) ≡ false → (j : ℕ) → j < e → ¬ T (at p s j)
   block_none g j m = before (length (part s i e)) (omega (arith, part_length s i e h l))
       (λ k n t. subst T g (any_at (length (part s i e)) (at p (part s i e)) k n t)) j (omega (arith, part_length s i e h l))
+
+  pub block_clear : IsLowest p (part s i e) None → (j : ℕ) → j < e → ¬ T (at p s j)
+  unfolding lowest
+  block_clear q j m = before (length (part s i e)) (omega (arith, part_length s i e h l))
+      (λ k n. first_before (length (part s i e)) (at p (part s i e)) k (omega arith)) j (omega (arith, part_length s i e h l))
 
   -- the lowest place of the block, counted from the start, is the whole's
   pub block_some : (x : ℕ) → IsLowest p (part s i e) (Some x) → IsLowest p s (Some (i + x))

@@ -32,25 +32,28 @@ fn lowest_in(s: &[u8], b: u8) -> Option<usize>
     s.iter().position(|x| b <= *x)
 }
 
-// The same by blocks: only the block that has such a byte is looked through.
+// The same, where the bytes are first looked at together: one by one only where there is such a byte.
+fn lowest_in_block(s: &[u8], b: u8) -> Option<usize>
+    ensures { IsLowest (leb b) s.now result }
+{
+    if reaches(s, b) { lowest_in(s, b) } else { None }
+}
+
+// The same by blocks: only the block that has such a byte is looked through. A block's length is a constant, which the compiler takes in one go; what
+// is left over comes last, in a shorter block.
 fn lowest_by_blocks(s: &[u8], b: u8) -> Option<usize>
     ensures { IsLowest (leb b) s.now result }
 {
-    for i in (0..s.len()).step_by(256) {
-        let e = block_end(i, s.len());
-        if reaches(&s[i..e], b) {
-            return Some(i + lowest_in(&s[i..e], b)?);
+    for block in 0..s.len() / 256 {
+        let i = block * 256;
+        let e = i + 256;
+        if let Some(x) = lowest_in_block(&s[i..e], b) {
+            return Some(i + x);
         }
     }
-    None
-}
-
-// The end of the block that starts at i: the last one may be shorter. By `chunks` no wrong program could go past the end, and one must be refused.
-fn block_end(i: usize, end: usize) -> usize
-    requires { i < end }
-    ensures { result ≡ min (i + 256) end }
-{
-    if 256 < end - i { i + 256 } else { end }
+    let i = s.len() - s.len() % 256;
+    let x = lowest_in_block(&s[i..s.len()], b)?;
+    Some(i + x)
 }
 
 // The lowest place of a byte that is b or more.

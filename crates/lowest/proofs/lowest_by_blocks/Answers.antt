@@ -1,42 +1,35 @@
--- `lowest::lowest_by_blocks` meets its contract. The invariant: no byte before i, where the next block starts, is b or more. A block with
--- no such byte moves i on; in the first block that has one, its lowest place is the whole's. Assumes nothing.
-use mathlib.Core.Path.{sym, ◌∙◌}
-use Prim.Native.Nat.{ℕ, ◌<◌}
+-- `lowest::lowest_by_blocks` meets its contract. The invariant: no byte of the blocks so far is b or more. A block with no such byte moves on; in
+-- the first block that has one, its lowest place is the whole's. Assumes nothing.
+use mathlib.Core.Path.{sym, subst}
+use Prim.Native.Nat.{◌+◌, ◌*◌, ◌-◌, ◌%◌}
 use native.Mathlib.Omega.{arith}
-use lib.Dec.{T, leb}
-use Rattle.model.proofs.Slices.{part}
-use Rattle.lowest.proofs.Lowest.{at, position_lowest, reached, block_none, block_some, none_in}
+use lib.Dec.{leb}
+use lib.ListN.{length}
+use Rattle.lowest.proofs.Lowest.{block_clear, block_some, none_in}
+use Rattle.lowest.specs.Place.{IsLowest}
 use Rattle.lowest.proofs.lowest_by_blocks.Goals as goal
-use Rattle.lowest.proofs.lowest_by_blocks.Goals.{Else-reaches}
 
-pub returns-in_err-lowest_in : goal.returns-in_err-lowest_in
-returns-in_err-lowest_in c =
+pub returns-in-Some : goal.returns-in-Some
+returns-in-Some c =
     let a = c.args in
-    let block = part a.s.now c.loop-i.i c.block_end-e.result in
-    absurd (reached (leb a.b) block (sym c.reaches.ensures ∙ c.if-reaches.true) (position_lowest (leb a.b) block _ c.in_err-lowest_in.ensures))
+    let i = c.loop-block.block * 256 in
+    block_some (leb a.b) a.s.now i (i + 256) (omega arith) (omega arith) c.loop-block.invariant _ c.in-Some.ensures
 
-pub returns-then-reaches : goal.returns-then-reaches
-returns-then-reaches c =
+pub loop-block-preserved : goal.loop-block-preserved
+loop-block-preserved c = λ j m n.
     let a = c.args in
-    let i = c.loop-i.i in
-    let e = c.block_end-e.result in
-    block_some (leb a.b) a.s.now i e (omega arith) (omega arith) c.loop-i.invariant _
-    (position_lowest (leb a.b) (part a.s.now i e) _ c.in_ok-lowest_in.ensures)
+    let i = c.loop-block.block * 256 in
+    block_clear (leb a.b) a.s.now i (i + 256) (omega arith) (omega arith) c.loop-block.invariant c.in_default.ensures j (omega arith)
 
--- none before the end of a block that has no such byte
-passed : (c : Else-reaches) → (j : ℕ) → j < c.block_end-e.result → ¬ T (at (leb c.args.b) c.args.s.now j)
-passed c =
+pub returns-in_err-x : goal.returns-in_err-x
+returns-in_err-x c =
     let a = c.args in
-    let i = c.loop-i.i in
-    let e = c.block_end-e.result in
-    block_none (leb a.b) a.s.now i e (omega arith) (omega arith) c.loop-i.invariant (sym c.reaches.ensures ∙ c.if-reaches.false)
-
-pub loop-i-preserved : goal.loop-i-preserved
-loop-i-preserved c = λ j m n. passed (goal.at.loop-i-preserved c).Else-reaches j (omega arith)
-
--- the last block
-pub returns-else-reaches : goal.returns-else-reaches
-returns-else-reaches c = none_in _ _ (λ j m n. passed (goal.at.returns-else-reaches c).Else-reaches j (omega arith))
+    let i = length a.s.now - length a.s.now % 256 in
+    let clear = block_clear (leb a.b) a.s.now i (length a.s.now) (omega arith) (omega arith) (λ j m n. c.loop-block.invariant j (omega arith) n) c.in_err-x.ensures in
+    subst (IsLowest (leb a.b) a.s.now) (sym c.from_residual.ensures) (none_in _ _ (λ j m n. clear j m))
 
 pub returns : goal.returns
-returns c = none_in _ _ (λ j m n. c.loop-i.invariant j (omega arith) n)
+returns c =
+    let a = c.args in
+    let i = length a.s.now - length a.s.now % 256 in
+    block_some (leb a.b) a.s.now i (length a.s.now) (omega arith) (omega arith) (λ j m n. c.loop-block.invariant j (omega arith) n) _ c.in_ok-x.ensures
