@@ -142,8 +142,23 @@ impl<'a> Reader<'a> {
         Ok(ten + unit)
     }
 
-    // n numbers below hi.
+    // n numbers below hi. The place is counted in a reader of its own, which stays in registers.
     pub fn numbers(&mut self, hi: usize, n: usize) -> Result<(), usize>
+        ensures file { self.new.file.now ≡ self.old.file.now }
+        ensures read { Reads self.old self.new (n * 2) (numbers hi n) (λ _ F. F) result }
+        ensures stands { IfErr result (λ p. self.new.at ≡ p) }
+    {
+        let mut ahead = Reader {
+            file: self.file,
+            at: self.at,
+        };
+        let read = ahead.each_number(hi, n);
+        self.at = ahead.at;
+        read
+    }
+
+    // The same, one by one.
+    fn each_number(&mut self, hi: usize, n: usize) -> Result<(), usize>
         ensures file { self.new.file.now ≡ self.old.file.now }
         ensures read { Reads self.old self.new (n * 2) (numbers hi n) (λ _ F. F) result }
         ensures stands { IfErr result (λ p. self.new.at ≡ p) }

@@ -1,9 +1,9 @@
--- `readers::Reader::numbers` meets its contract. The invariant: the first of the numbers are read. Assumes nothing.
+-- `readers::Reader::each_number` meets its contract. The invariant: the first of the numbers are read. Assumes nothing.
 use mathlib.Core.Path.{◌≡◌}
 use Prim.Native.Nat.{◌*◌}
 use Rattle.layout.specs.Layout.{number, times}
 use Rattle.readers.specs.Pieces.{Whole}
-use Rattle.readers.proofs.Reader.numbers.Given as goal
+use Rattle.readers.proofs.Reader.each_number.Given as goal
 
 abbrev pub invariant-loop : goal.invariant-loop
 invariant-loop l = record {

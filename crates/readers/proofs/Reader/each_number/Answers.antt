@@ -1,9 +1,9 @@
--- `readers::Reader::numbers` meets its contract: a number is a piece, whatever its value. Assumes nothing.
+-- `readers::Reader::each_number` meets its contract: a number is a piece, whatever its value. Assumes nothing.
 use mathlib.Core.Path.{◌≡◌, refl, ◌∙◌}
 use native.Mathlib.Omega.{arith}
 use Rattle.layout.specs.Layout.{number, numbers}
 use Rattle.readers.proofs.Steps.{read_none, read_on, read_off, gives_up}
-use Rattle.readers.proofs.Reader.numbers.Goals as goal
+use Rattle.readers.proofs.Reader.each_number.Goals as goal
 
 pub loop-init : goal.loop-init
 loop-init c = record { same = refl; read = read_none _ 2 (λ _ F. number 0 c.args.hi (λ _. F)) }
