@@ -1,6 +1,7 @@
 -- `files::read_policy` meets its contract: its exits are those of `Fills`, at the numbers that the file has. Assumes nothing.
-use mathlib.Core.Path.{◌≡◌, sym, ◌∙◌}
-use Prim.Native.Nat.{◌*◌}
+use mathlib.Core.Path.{◌≡◌, sym, ◌∙◌, subst}
+use mathlib.Core.List.{List}
+use Prim.Native.Nat.{ℕ, ◌*◌}
 use native.Mathlib.Omega.{arith}
 use lib.ListN.{length}
 use Rattle.std.specs.Prelude.{Ok}
@@ -9,6 +10,7 @@ use Rattle.model.specs.Refusal.{checked}
 use Rattle.model.specs.Rules.{room_rules}
 use Rattle.model.proofs.Groups.{handed_on}
 use Rattle.model.proofs.Rules.{room_fine}
+use Rattle.files.specs.Read.{ReadPolicy, read_policy_told, PolicyRead}
 use Rattle.files.proofs.Fills.{policy_bad, PolicyFits, policy_fits, policy_limits, policy_entities, policy_long}
 use Rattle.files.proofs.Fills.{names_short, cells_short, policy_filled}
 use Rattle.files.proofs.read_policy.Goals as goal
@@ -25,18 +27,24 @@ roomy c = sym c.room_fits.ensures ∙ c.in_ok-room_fits.was
 spacious : (c : In_ok-room_fits-2) → let z = c.in_ok-sizes.sizes in checked (room_rules Room (length c.args.table.now) (z.d * (z.k * z.d))) ≡ Ok tt
 spacious c = sym c.room_fits-2.ensures ∙ c.in_ok-room_fits-2.was
 
+-- that the read answers r, and leaves both buffers as they were
+abbrev Answers : List ℕ → List ℕ → List ℕ → ReadPolicy → Type 0
+Answers s x y r = PolicyRead s x y (read_policy_told r) x y
+
 pub returns-in_err-sizes : goal.returns-in_err-sizes
 returns-in_err-sizes c =
     let q = c.read_policy.ensures in
     let a = c.args in
     let same = handed_on _ c.from_residual.ensures.1 in
-    rw same (policy_bad a.file.now a.assignment.now a.table.now c.read_policy.result _ q.place q.fault c.in_err-sizes.ensures)
+    subst (Answers a.file.now a.assignment.now a.table.now) (sym same)
+    (policy_bad a.file.now a.assignment.now a.table.now c.read_policy.result _ q.place q.fault c.in_err-sizes.ensures)
 
 pub returns-in_err-room_fits : goal.returns-in_err-room_fits
 returns-in_err-room_fits c =
     let bad = sym c.room_fits.ensures ∙ c.in_err-room_fits.was in
     let same = handed_on _ c.from_residual-in_err-room_fits.ensures.1 in
-    rw same (names_short (fits (goal.at.returns-in_err-room_fits c).In_ok-sizes) c.args.assignment.now c.args.table.now _ bad)
+    subst (Answers c.args.file.now c.args.assignment.now c.args.table.now) (sym same)
+    (names_short (fits (goal.at.returns-in_err-room_fits c).In_ok-sizes) c.args.assignment.now c.args.table.now _ bad)
 
 pub overflow_mul-k : goal.overflow_mul-k
 overflow_mul-k c = omega (arith, (policy_limits (fits (goal.at.overflow_mul-k c).In_ok-sizes)).row)
@@ -49,7 +57,8 @@ returns-in_err-room_fits-2 c =
     let bad = sym c.room_fits-2.ensures ∙ c.in_err-room_fits-2.was in
     let room = roomy (goal.at.returns-in_err-room_fits-2 c).In_ok-room_fits in
     let same = handed_on _ c.from_residual-in_err-room_fits-2.ensures.1 in
-    rw same (cells_short (fits (goal.at.returns-in_err-room_fits-2 c).In_ok-sizes) c.args.assignment.now c.args.table.now room _ bad)
+    subst (Answers c.args.file.now c.args.assignment.now c.args.table.now) (sym same)
+    (cells_short (fits (goal.at.returns-in_err-room_fits-2 c).In_ok-sizes) c.args.assignment.now c.args.table.now room _ bad)
 
 pub fill_numbers-requires : goal.fill_numbers-requires
 fill_numbers-requires c = (
