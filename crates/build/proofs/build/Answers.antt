@@ -1,6 +1,8 @@
 -- `build::build` meets its contract: where a rule before the last applies nothing was written; past them the classes are found, and
 -- `write` gives the last refusal or writes the built policy (`Exits`). Assumes nothing.
-use mathlib.Core.Path.{◌≡◌, sym, ◌∙◌}
+use mathlib.Core.Path.{◌≡◌, sym, ◌∙◌, subst}
+use mathlib.Core.List.{List}
+use Prim.Native.Nat.{ℕ}
 use lib.ListN.{length}
 use Rattle.std.specs.Prelude.{Ok}
 use Rattle.model.specs.declared.Fault.TheVariants.{AssignmentRoom}
@@ -8,6 +10,7 @@ use Rattle.model.specs.Refusal.{checked}
 use Rattle.model.specs.Rules.{room_rules}
 use Rattle.model.proofs.Groups.{handed_on}
 use Rattle.model.proofs.Rules.{room_fine}
+use Rattle.build.specs.Build.{Built, Builds}
 use Rattle.build.proofs.Exits.{whole_bad, room_bad, wrote}
 use Rattle.build.proofs.build.Goals as goal
 use Rattle.build.proofs.build.Goals.{In_ok-m, In_ok-room_fits}
@@ -16,17 +19,23 @@ use Rattle.build.proofs.build.Goals.{In_ok-m, In_ok-room_fits}
 room : (c : In_ok-room_fits) → let a = c.args in Ok tt ≡ checked (room_rules AssignmentRoom (length a.assignment.now) a.n)
 room c = sym c.in_ok-room_fits.was ∙ c.room_fits.ensures
 
+-- that the build answers r, and leaves both buffers as they were
+abbrev Answers : (n k : ℕ) (m s t : List ℕ) → Built → Type 0
+Answers n k m s t r = Builds n k m s t r s t
+
 pub returns-in_err-m : goal.returns-in_err-m
 returns-in_err-m c =
     let a = c.args in
     let same = handed_on _ c.from_residual.ensures.1 in
-    rw same (whole_bad a.n a.k a.matrix.now a.assignment.now a.table.now _ c.in_err-m.ensures.refusals)
+    subst (Answers a.n a.k a.matrix.now a.assignment.now a.table.now) (sym same)
+    (whole_bad a.n a.k a.matrix.now a.assignment.now a.table.now _ c.in_err-m.ensures.refusals)
 
 pub returns-in_err-room_fits : goal.returns-in_err-room_fits
 returns-in_err-room_fits c =
     let a = c.args in
     let same = handed_on _ c.from_residual-in_err-room_fits.ensures.1 in
-    rw same (room_bad a.n a.k a.matrix.now a.assignment.now a.table.now c.in_ok-m.ensures.refusals _ (sym c.in_err-room_fits.was ∙ c.room_fits.ensures))
+    subst (Answers a.n a.k a.matrix.now a.assignment.now a.table.now) (sym same)
+    (room_bad a.n a.k a.matrix.now a.assignment.now a.table.now c.in_ok-m.ensures.refusals _ (sym c.in_err-room_fits.was ∙ c.room_fits.ensures))
 
 pub write-requires : goal.write-requires
 write-requires c =
