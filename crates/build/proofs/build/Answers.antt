@@ -26,14 +26,14 @@ Answers n k m s t r = Builds n k m s t r s t
 pub returns-in_err-m : goal.returns-in_err-m
 returns-in_err-m c =
     let a = c.args in
-    let same = handed_on _ c.from_residual.ensures.1 in
+    let same = handed_on c.from_residual.result c.from_residual.ensures.1 in
     subst (Answers a.n a.k a.matrix.now a.assignment.now a.table.now) (sym same)
     (whole_bad a.n a.k a.matrix.now a.assignment.now a.table.now _ c.in_err-m.ensures.refusals)
 
 pub returns-in_err-room_fits : goal.returns-in_err-room_fits
 returns-in_err-room_fits c =
     let a = c.args in
-    let same = handed_on _ c.from_residual-in_err-room_fits.ensures.1 in
+    let same = handed_on c.from_residual-in_err-room_fits.result c.from_residual-in_err-room_fits.ensures.1 in
     subst (Answers a.n a.k a.matrix.now a.assignment.now a.table.now) (sym same)
     (room_bad a.n a.k a.matrix.now a.assignment.now a.table.now c.in_ok-m.ensures.refusals _ (sym c.in_err-room_fits.was ∙ c.room_fits.ensures))
 
