@@ -1,23 +1,19 @@
 -- The exits of the two reads. Where the check stopped inside the file, the file is malformed and that is its place. Past its end the file is
 -- that of a matrix, or of a policy, with the numbers that its first line has; and what is filled from it is the rest. Assumes nothing.
 use mathlib.Core.Path.{◌≡◌, refl, sym, ap, ◌∙◌, subst}
-use mathlib.Core.Bool.{cond}
 use mathlib.Core.List.{List, [], ◌∷◌}
-use Prim.Native.Nat.{ℕ, ◌+◌, ◌*◌, ◌≤◌, ◌<◌}
+use Prim.Native.Nat.{ℕ, ◌+◌, ◌*◌, ◌≤◌}
 use native.Mathlib.Omega.{arith}
-use borrow.Author.Tests.{leb-false}
-use lib.Dec.{leb}
 use lib.ListN.{length}
 use lib.Seq.{sets}
-use Rattle.model.specs.declared.Fault.{Fault}
 use Rattle.model.specs.declared.Fault.TheVariants.{AssignmentRoom, Room, FileForm}
 use Rattle.model.specs.declared.Refusal.{Refusal}
 use Rattle.std.specs.Prelude.{Result, Ok, Err, MatchResult, IfOk, IfErr}
 use Rattle.model.specs.Below.{tab}
 use Rattle.model.specs.Policy.{Policy}
-use Rattle.model.specs.Refusal.{Checked, checked, refusal, values, told_refusal, over}
+use Rattle.model.specs.Refusal.{checked, refusal, values, told_refusal, over}
 use Rattle.model.specs.Rules.{room_rules}
-use Rattle.model.proofs.Groups.{checked_fine, group_fine, group_bad, tell_fine, tell_bad, held_fine, held_bad}
+use Rattle.model.proofs.Groups.{group_fine, group_bad, tell_fine, tell_bad, held_fine, held_bad}
 use Rattle.model.proofs.Rules.{room_fine}
 use Rattle.layout.specs.Text.{each}
 use Rattle.layout.specs.Files.{MatrixFile, PolicyFile}
@@ -29,11 +25,6 @@ use Rattle.readers.specs.Pieces.{stopped}
 use Rattle.places.specs.declared.MatrixSizes.{MatrixSizes}
 use Rattle.places.specs.declared.PolicySizes.{PolicySizes}
 use Rattle.files.specs.Read.{MatrixRead, matrix_room, policy_room, PolicyRead}
-
--- a place that is not refused lies past the end
-pub placed_fine : (fault : Fault) (place size : ℕ) → cond {A = Checked} (leb place size) (Err (refusal fault place)) (Ok tt) ≡ Ok tt
-    → size < place
-placed_fine fault place size e = leb-false place size (checked_fine (leb place size) (refusal fault place) (Ok tt) e).0
 
 -- what was filled from the start on
 filled : (new x x' : List ℕ) → length new ≤ length x → x' ≡ sets x 0 new → x' ≡ over new x
