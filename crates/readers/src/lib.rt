@@ -130,7 +130,7 @@ impl<'a> Reader<'a> {
         ensures value { IfOk result (λ x. (x ≡ number_at self.old.file.now self.old.at) × (lo ≤ x) × (x < hi)) }
     {
         let ten = self.peek_digit()? * 10;
-        if hi <= ten || ten + 10 <= lo {
+        if hi <= ten || ten + 9 < lo {
             return Err(self.at);
         }
         self.at += 1;
@@ -142,7 +142,8 @@ impl<'a> Reader<'a> {
         Ok(ten + unit)
     }
 
-    // n numbers below hi. The place is counted in a reader of its own, which stays in registers.
+    // n numbers below hi. The place is counted in a reader of its own, and apart from the callers, so that all that the loop takes stays in registers.
+    #[inline(never)]
     pub fn numbers(&mut self, hi: usize, n: usize) -> Result<(), usize>
         ensures file { self.new.file.now ≡ self.old.file.now }
         ensures read { Reads self.old self.new (n * 2) (numbers hi n) (λ _ F. F) result }

@@ -13,19 +13,20 @@ pub returns-in-Some : goal.returns-in-Some
 returns-in-Some c =
     let a = c.args in
     let i = c.loop-block.block * 256 in
-    block_some (leb a.b) a.s.now i (i + 256) (omega arith) (omega arith) c.loop-block.invariant _ c.in-Some.ensures
+    block_some (leb a.b) a.s.now i _ (omega arith) (omega arith) c.loop-block.invariant _ c.in-Some.ensures
 
 pub loop-block-preserved : goal.loop-block-preserved
 loop-block-preserved c = λ j m n.
     let a = c.args in
     let i = c.loop-block.block * 256 in
-    block_clear (leb a.b) a.s.now i (i + 256) (omega arith) (omega arith) c.loop-block.invariant c.in_default.ensures j (omega arith)
+    block_clear (leb a.b) a.s.now i _ (omega arith) (omega arith) c.loop-block.invariant c.in_default.ensures j (omega arith)
 
 pub returns-in_err-x : goal.returns-in_err-x
 returns-in_err-x c =
     let a = c.args in
     let i = length a.s.now - length a.s.now % 256 in
-    let clear = block_clear (leb a.b) a.s.now i (length a.s.now) (omega arith) (omega arith) (λ j m n. c.loop-block.invariant j (omega arith) n) c.in_err-x.ensures in
+    let clear = block_clear (leb a.b) a.s.now i (length a.s.now) (omega arith) (omega arith) (λ j m n. c.loop-block.invariant j (omega arith) n)
+    c.in_err-x.ensures in
     subst (IsLowest (leb a.b) a.s.now) (sym c.from_residual.ensures) (none_in _ _ (λ j m n. clear j m))
 
 pub returns : goal.returns
