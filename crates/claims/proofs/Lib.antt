@@ -4,3 +4,4 @@ pub mod Alike
 pub mod Judge
 pub mod Across
 pub mod Patterns
+pub mod Listed

@@ -1,3 +1,4 @@
 pub mod Read
 pub mod Write
 pub mod Longest
+pub mod Listed

@@ -15,3 +15,5 @@ pub mod Clashes
 pub mod Groups
 pub mod Rules
 pub mod Kept
+pub mod Reasons
+pub mod Listed
